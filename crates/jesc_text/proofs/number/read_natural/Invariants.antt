@@ -1,0 +1,10 @@
+use Rattle.std.proofs.Common.{◌≡◌, ◌≤◌, ◌^◌, take}
+use Rattle.std.specs.Str.Parse.{AllDigits, digits_value}
+use Rattle.jesc_text.proofs.number.read_natural.Given as goal
+
+abbrev pub invariant-loop-byte : goal.invariant-loop-byte
+invariant-loop-byte l = record {
+  digits : AllDigits 10 (take l.byte-index l.bytes);
+  value : l.n ≡ digits_value 10 (take l.byte-index l.bytes);
+  small : l.n ≤ 2 ^ 126;
+}
