@@ -1,0 +1,9 @@
+pub mod Lexemes
+pub mod Spelling
+pub mod Names
+pub mod Machine
+pub mod Accepted
+pub mod Scanning
+pub mod Reads
+pub mod Parsing
+pub mod Outside
