@@ -1,0 +1,11 @@
+pub mod Closing
+pub mod Edges
+pub mod Escapes
+pub mod Represents
+pub mod KindTexts
+pub mod Readings
+pub mod Signs
+pub mod Steps
+pub mod Unique
+pub mod Values
+pub mod Words
