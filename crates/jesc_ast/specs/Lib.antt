@@ -1,0 +1,13 @@
+pub mod Lines
+pub mod Lexemes
+pub mod Words
+pub mod Trees
+pub mod SpecTrees
+pub mod FileTrees
+pub mod Expressions
+pub mod Statements
+pub mod Specifications
+pub mod Members
+pub mod Depth
+pub mod Spelled
+pub mod LeftOut
