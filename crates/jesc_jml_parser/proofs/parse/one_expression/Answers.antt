@@ -1,0 +1,5 @@
+use Rattle.jesc_jml_parser.specs.Whole.{unique}
+use Rattle.jesc_jml_parser.proofs.parse.one_expression.Goals as goal
+
+pub returns : goal.returns
+returns c = unique
