@@ -17,7 +17,8 @@ use std::alloc::Global;
 impl<
     F: Fn(Global, &mut Cursor<'_>, usize, usize, usize, Start<'_>) -> Result<Found, ParseError>,
 > Grammar<F> {
-    fn climb(
+    /// What goes on with an expression, in so many turns at most.
+    pub fn climb(
         &self,
         cursor: &mut Cursor<'_>,
         least: usize,
