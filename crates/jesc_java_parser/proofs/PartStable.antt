@@ -182,12 +182,15 @@ module _ (same : Bool) (limit limit' : ℕ) (limits : limit ≤ limit') (room ro
       (stable.refines_arguments same false limit limit' limits room room' rooms same_rooms (less false room) (more false room') (h false room room' rooms same_rooms) k k' ks same_ks)
       (λ es. chain _ _ _ _ (eat false m.RightParen) (λ q. chain _ _ _ _ (eat false m.Semicolon) (λ e. done _))))
 
+  refines_super_method : (r : Lexeme) → Refines same (spec.super_method limit room less k r) (spec.super_method limit' room' more k' r)
+  unfolding spec.super_method
+  refines_super_method r = chain _ _ _ _ (eat false m.Dot) (λ dot. chain _ _ _ _ (eat false m.Name) (λ x.
+      stable.refines_called same false limit limit' limits (room - 1) (room' - 1) lower same_lower (less false (room - 1)) (more false (room' - 1))
+      (h false (room - 1) (room' - 1) lower same_lower) k k' ks same_ks r.span super 0 x))
+
   refines_super_called_on : (r : Lexeme) → Refines same (spec.super_called_on limit room less k r) (spec.super_called_on limit' room' more k' r)
   unfolding spec.super_called_on
-  refines_super_called_on r = chain _ _ _ _ (eat false m.Dot) (λ dot. chain _ _ _ _ (eat false m.Name) (λ x. chain _ _ _ _
-      (stable.refines_called same false limit limit' limits (room - 1) (room' - 1) lower same_lower (less false (room - 1)) (more false (room' - 1))
-      (h false (room - 1) (room' - 1) lower same_lower) k k' ks same_ks r.span super 0 x)
-      (λ a. chain _ _ _ _ (refines_longer false a) (refines_acted true))))
+  refines_super_called_on r = chain _ _ _ _ (refines_super_method r) (λ a. chain _ _ _ _ (refines_longer false a) (refines_acted true))
 
   refines_super_acted : (r : Lexeme) → Refines same (spec.super_acted limit room less k r) (spec.super_acted limit' room' more k' r)
   unfolding spec.super_acted
@@ -249,10 +252,14 @@ module _ (same : Bool) (limit limit' : ℕ) (limits : limit ≤ limit') (room ro
   refines_set = chain _ _ _ _ (take (is_word (codes "set") true)) (λ r. chain _ _ _ _ (refines_target true) (λ a.
       chain _ _ _ _ (take (is_sign (codes "=") true)) (λ q. chain _ _ _ _ (whole true) (λ e. chain _ _ _ _ (eat true m.Semicolon) (λ p. done _)))))
 
+  refines_ghost_head : Refines same (spec.ghost_head limit room less k) (spec.ghost_head limit' room' more k')
+  unfolding spec.ghost_head
+  refines_ghost_head = chain _ _ _ _ (take (is_word (codes "ghost") true)) (λ r. chain _ _ _ _ (refines_type true) (λ t. chain _ _ _ _ (eat true m.Name) (λ x.
+      chain _ _ _ _ (take (is_sign (codes "=") true)) (λ q. done _))))
+
   pub refines_ghost : Refines same (spec.ghost_ limit room less k) (spec.ghost_ limit' room' more k')
   unfolding spec.ghost_
-  refines_ghost = chain _ _ _ _ (take (is_word (codes "ghost") true)) (λ r. chain _ _ _ _ (refines_type true) (λ t. chain _ _ _ _ (eat true m.Name) (λ x.
-      chain _ _ _ _ (take (is_sign (codes "=") true)) (λ q. chain _ _ _ _ (whole true) (λ e. chain _ _ _ _ (eat true m.Semicolon) (λ p. done _))))))
+  refines_ghost = chain _ _ _ _ refines_ghost_head (λ start. chain _ _ _ _ (whole true) (λ e. chain _ _ _ _ (eat true m.Semicolon) (λ p. done _)))
 
   pub refines_for_first : Refines same (spec.for_first limit room less k) (spec.for_first limit' room' more k')
   unfolding spec.for_first

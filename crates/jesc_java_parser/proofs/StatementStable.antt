@@ -63,9 +63,13 @@ module _ (same : Bool) (limit limit' : ℕ) (limits : limit ≤ limit') (room ro
   unfolding spec.braced
   refines_braced = link _ _ _ _ (taking (is_sign (codes "{") false)) (λ p. refines_body_rest no_items)
 
+  refines_block_behind : (p : Lexeme) → Refines same (spec.block_behind limit room less k f p) (spec.block_behind limit' room' more k' g p)
+  unfolding spec.block_behind
+  refines_block_behind p = link _ _ _ _ (refines_body_rest no_items) (λ b. refines_pure same _)
+
   refines_block : Refines same (spec.block_ limit room less k f) (spec.block_ limit' room' more k' g)
   unfolding spec.block_
-  refines_block = link _ _ _ _ (taking (is_sign (codes "{") false)) (λ p. link _ _ _ _ (refines_body_rest no_items) (λ b. refines_pure same _))
+  refines_block = link _ _ _ _ (taking (is_sign (codes "{") false)) refines_block_behind
 
   refines_super_first : Refines same (spec.super_first limit room less k f) (spec.super_first limit' room' more k' g)
   unfolding spec.super_first

@@ -13,8 +13,8 @@ use Rattle.jesc_jml_parser.specs.Reading as reading
 use Rattle.jesc_jml_parser.specs.Reading.{Parsed, Start}
 use Rattle.jesc_jml_parser.specs.SoundMarks.{marked}
 use Rattle.jesc_jml_parser.specs.SoundPieces.{super_call_piece}
-use Rattle.jesc_jml_parser.specs.SoundSteps.{Gives, gives_bind, took, TakesWhole}
-use Rattle.jesc_jml_parser.specs.SoundCalls.{called_takes, arguments_takes}
+use Rattle.jesc_jml_parser.specs.SoundSteps.{Gives, gives_bind, gives_so, took, Taken, TakesWhole}
+use Rattle.jesc_jml_parser.specs.SoundCalls.{TakenCall, called_takes, arguments_takes}
 use Rattle.jesc_jml_parser.specs.SoundLonger.{climb_takes}
 use Rattle.jesc_jml_parser.specs.ClauseFound.{Sized}
 use Rattle.jesc_jml_parser.specs.ClauseSoundLists.{TakenAs}
@@ -73,25 +73,31 @@ module _ (limit room : ℕ) (expression : Bool → ℕ → ℕ → ℕ → Start
           };
         }))))
 
-    super_called_takes : 0 < room → Gives (spec.super_called_on limit room expression k r ts) (TakenAs (IsPiece room k true true) all)
-    unfolding spec.super_called_on spec.longer
-    super_called_takes some =
-        let same : suc (room - 1) ≤ room = omega (arith, some) in
+    super_method_takes : 0 < room → Gives (spec.super_method limit room expression k r ts) (Taken false (suc (room - 1)) k 0 (r ∷ []) ts)
+    unfolding spec.super_method
+    super_method_takes some =
         gives_bind _ _ (expect false m.Dot ts) (took false m.Dot ts) (λ dot t1 dotted.
         gives_bind _ _ (expect false m.Name t1) (took false m.Name t1) (λ x t2 named.
-        gives_bind _ _ (reading.called false limit (room - 1) (expression false (room - 1)) k r.span super 0 x t2)
-        (called_takes false limit (room - 1) (expression false (room - 1)) (reads false (room - 1)) k r.span super 0 x t2) (λ a t3 h.
-        gives_bind _ _ (spec.longer limit room expression k false a t3)
-        (climb_takes false limit (room - 1) (expression false (room - 1)) (reads false (room - 1)) k 11 0 (omega arith) (omega arith) (r ∷ []) ts room a t3
-        (record {
+        gives_so (TakenCall false (room - 1) k r.span super 0 x t2) (Taken false (suc (room - 1)) k 0 (r ∷ []) ts)
+        (reading.called false limit (room - 1) (expression false (room - 1)) k r.span super 0 x t2)
+        (called_takes false limit (room - 1) (expression false (room - 1)) (reads false (room - 1)) k r.span super 0 x t2) (λ a rest h.
+        record {
           taken = dot ∷ x ∷ h.left ∷ (h.part ++ h.right ∷ []);
           parts = rw (dotted.at, named.at, h.parts) refl;
           is = rw h.made (super_call_piece false (room - 1) k r dot x h.left h.right h.trees h.part first dotted.mark named.mark h.left_mark h.right_mark h.is);
           tight = λ less. omega arith;
-        }))
+        })))
+
+    super_called_takes : 0 < room → Gives (spec.super_called_on limit room expression k r ts) (TakenAs (IsPiece room k true true) all)
+    unfolding spec.super_called_on spec.longer
+    super_called_takes some =
+        let same : suc (room - 1) ≤ room = omega (arith, some) in
+        gives_bind _ _ (spec.super_method limit room expression k r ts) (super_method_takes some) (λ a mid h.
+        gives_bind _ _ (spec.longer limit room expression k false a mid)
+        (climb_takes false limit (room - 1) (expression false (room - 1)) (reads false (room - 1)) k 11 0 (omega arith) (omega arith) (r ∷ []) ts room a mid h)
         (λ e end g.
         acted_takes limit room expression reads k true true e (r ∷ g.taken) (resized false (suc (room - 1)) room k (r ∷ g.taken) e g.is same) all end
-        (rw (parts, g.parts) refl)))))
+        (rw (parts, g.parts) refl)))
 
     super_acted_takes : 0 < room → Gives (spec.super_acted limit room expression k r ts) (TakenAs (BeginsBody (suc room) k) all)
     unfolding spec.super_acted

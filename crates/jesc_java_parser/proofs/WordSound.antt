@@ -1,9 +1,11 @@
 -- What the rules of statements take that begin with a word of their own and have no statement inside.
-use Rattle.std.proofs.Common.{ℕ, suc, ◌+◌, ◌-◌, Bool, true, false, List, [], ◌∷◌, ◌++◌, refl, sym, ap, append_assoc, arith}
+use Rattle.std.proofs.Common.{◌≡◌, ℕ, suc, ◌+◌, ◌-◌, Bool, true, false, List, [], ◌∷◌, ◌++◌, refl, sym, ap, append_assoc, arith}
 use Rattle.std.specs.Prelude.{codes}
-use Rattle.jesc_ast.specs.Lexemes.{Lexeme}
+use Rattle.jesc_ast.specs.Lexemes.{Lexeme, word, sign}
+use Rattle.jesc_ast.specs.Expressions.{SpellsType}
 use Rattle.jesc_ast.specs.Statements.{is_return, is_throw, is_break, is_continue, is_empty, is_assertion, is_set, is_ghost_local}
 use Rattle.jesc_jml_parser.specs.declared.mark.Mark.TheVariants as m
+use Rattle.jesc_jml_parser.specs.Marks.{lexeme_mark}
 use Rattle.jesc_jml_parser.specs.Steps.{Parser, expect}
 use Rattle.jesc_jml_parser.specs.Reading.{Parsed, Start}
 use Rattle.jesc_jml_parser.specs.SoundMarks.{marked}
@@ -12,9 +14,19 @@ use Rattle.jesc_jml_parser.specs.SoundCalls.{type_takes}
 use Rattle.jesc_jml_parser.specs.ClauseSoundLists.{TakenAs}
 use Rattle.jesc_java_parser.specs.Lexing.{is_sign, is_word, take_if}
 use Rattle.jesc_java_parser.specs.StatementReading as spec
+use Rattle.jesc_java_parser.specs.StatementReading.{GhostHead}
 use Rattle.jesc_java_parser.proofs.LexingSound.{took_this_word, took_this_sign}
 use Rattle.jesc_java_parser.proofs.PieceSound.{whole_takes, target_takes}
 use Rattle.jesc_java_parser.proofs.PartSound.{IsPlainRead, optional_value_takes}
+
+-- the word, the type, the name and the equals sign of a ghost local
+record IsGhostHead (head : GhostHead) (u : List Lexeme) : Type 0 where
+  part : List Lexeme
+  parts : u ≡ head.first ∷ (part ++ head.name ∷ head.equals ∷ [])
+  first_is : head.first ≡ word true "ghost" head.first.span
+  typed : SpellsType true head.ty part
+  named : lexeme_mark true head.name ≡ m.Name
+  equals_is : head.equals ≡ sign true "=" head.equals.span
 
 module _ (limit room : ℕ) (expression : Bool → ℕ → ℕ → ℕ → Start → Parser Parsed)
     (reads : (note : Bool) (room : ℕ) → TakesWhole note room (expression note room)) (k : ℕ) where
@@ -154,27 +166,37 @@ module _ (limit room : ℕ) (expression : Bool → ℕ → ℕ → ℕ → Start
         };
       })))))
 
-  pub ghost_takes : (ts : List Lexeme) → Gives (spec.ghost_ limit room expression k ts) (TakenAs (IsPlainRead (suc room) k) ts)
-  unfolding spec.ghost_
-  ghost_takes ts =
+  ghost_head_takes : (ts : List Lexeme) → Gives (spec.ghost_head limit room expression k ts) (TakenAs IsGhostHead ts)
+  unfolding spec.ghost_head
+  ghost_head_takes ts =
       gives_bind _ _ (take_if (is_word (codes "ghost") true) ts) (took_this_word (codes "ghost") true ts) (λ r t1 first.
       gives_bind _ _ (spec.type_inside limit room expression k true t1) (type_takes true limit (room - 1) (expression true (room - 1)) (reads true (room - 1)) k t1) (λ t t2 h.
       gives_bind _ _ (expect true m.Name t2) (took true m.Name t2) (λ x t3 named.
-      gives_bind _ _ (take_if (is_sign (codes "=") true) t3) (took_this_sign (codes "=") true t3) (λ q t4 equals.
-      gives_bind _ _ (spec.whole limit room expression k true t4) (whole_takes limit room expression reads k true t4) (λ e t5 g.
-      gives_bind _ _ (expect true m.Semicolon t5) (took true m.Semicolon t5) (λ p rest close.
-      let at = marked true m.Name x named.mark in
+      gives_bind _ _ (take_if (is_sign (codes "=") true) t3) (took_this_sign (codes "=") true t3) (λ q rest equals.
       record {
-        taken = r ∷ (h.taken ++ x ∷ q ∷ (g.taken ++ p ∷ []));
-        parts = rw (first.at, h.parts, named.at, equals.at, g.parts, close.at) (sym (simp append_assoc));
+        taken = r ∷ (h.taken ++ x ∷ q ∷ []);
+        parts = rw (first.at, h.parts, named.at, equals.at) (sym (simp append_assoc));
+        is = record { part = h.taken; parts = refl; first_is = first.is; typed = h.spelled; named = named.mark; equals_is = equals.is };
+      }))))
+
+  pub ghost_takes : (ts : List Lexeme) → Gives (spec.ghost_ limit room expression k ts) (TakenAs (IsPlainRead (suc room) k) ts)
+  unfolding spec.ghost_
+  ghost_takes ts =
+      gives_bind _ _ (spec.ghost_head limit room expression k ts) (ghost_head_takes ts) (λ head t1 h.
+      gives_bind _ _ (spec.whole limit room expression k true t1) (whole_takes limit room expression reads k true t1) (λ e t2 g.
+      gives_bind _ _ (expect true m.Semicolon t2) (took true m.Semicolon t2) (λ p rest close.
+      let at = marked true m.Name head.name h.is.named in
+      record {
+        taken = head.first ∷ (h.is.part ++ head.name ∷ head.equals ∷ (g.taken ++ p ∷ []));
+        parts = rw (h.parts, h.is.parts, g.parts, close.at, append_assoc h.is.part (head.name ∷ head.equals ∷ []) (g.taken ++ p ∷ rest)) (sym (simp append_assoc));
         is = record {
           read = record {
-            spelled = rw (first.is, at.0, equals.is, marked true m.Semicolon p close.mark)
-                (is_ghost_local r.span x.span q.span p.span t x.text e.tree h.taken g.taken h.spelled at.1 (e.strength, g.is.spelled));
+            spelled = rw (h.is.first_is, at.0, h.is.equals_is, marked true m.Semicolon p close.mark)
+                (is_ghost_local head.first.span head.name.span head.equals.span p.span head.ty head.name.text e.tree h.is.part g.taken h.is.typed at.1 (e.strength, g.is.spelled));
             deep = ap (λ (n : ℕ). n + 1) g.is.deep;
             shallow = omega (arith, g.is.shallow);
             flat = omega (arith, g.is.flat);
           };
           plain = record { no_loop = refl; no_branch = refl };
         };
-      }))))))
+      })))

@@ -5,3 +5,4 @@ pub mod StatementReading
 pub mod FileMarks
 pub mod FileReading
 pub mod Views
+pub mod StatementNests

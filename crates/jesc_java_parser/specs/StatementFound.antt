@@ -3,7 +3,7 @@ use Rattle.std.specs.Prelude.{ℕ, ◌+◌, max, Bool, true, false, Option, Some
 use Rattle.jesc_text.specs.declared.place.Span.{Span}
 use Rattle.jesc_ast.specs.declared.word.TypeTree.{TypeTree}
 use Rattle.jesc_ast.specs.Lexemes.{Lexeme, join}
-use Rattle.jesc_ast.specs.Trees.{Expression, expressions_of, Clause, Statement, block, local, ghost_local, assign, call_statement, branch, while_loop, for_loop, return, throw, attempt, assertion, set_statement, super_call, Body, body, Catch, catch, statements_of, catches_of, OptionalStatement, no_statement, one_statement}
+use Rattle.jesc_ast.specs.Trees.{break, continue, empty, Expression, expressions_of, Clause, Statement, block, local, ghost_local, assign, call_statement, branch, while_loop, for_loop, return, throw, attempt, assertion, set_statement, super_call, Body, body, Catch, catch, statements_of, catches_of, OptionalStatement, no_statement, one_statement}
 use Rattle.jesc_ast.specs.Expressions.{span_of}
 use Rattle.jesc_ast.specs.Statements.{statement_span, body_end, catches_end}
 use Rattle.jesc_jml_parser.specs.Reading.{Parsed, Listed, word_of}
@@ -22,6 +22,13 @@ pub record ForHead : Type 0 where
   pub test : Option Expression
   pub last : OptionalStatement
   pub depth : ℕ
+
+-- the type, the name and the equals sign of a ghost local
+pub record GhostHead : Type 0 where
+  pub first : Lexeme
+  pub ty : TypeTree
+  pub name : Lexeme
+  pub equals : Lexeme
 
 pub record CatchHead : Type 0 where
   pub is_final : Bool
@@ -108,6 +115,15 @@ return_of r e p = sized (return (join r.span p.span) e.tree) (e.depth + 1)
 abbrev pub throw_of : Lexeme → Parsed → Lexeme → Sized Statement
 throw_of r e p = sized (throw (join r.span p.span) e.tree) (e.depth + 1)
 
+abbrev pub break_of : Lexeme → Lexeme → Sized Statement
+break_of r p = sized (break (join r.span p.span)) 1
+
+abbrev pub continue_of : Lexeme → Lexeme → Sized Statement
+continue_of r p = sized (continue (join r.span p.span)) 1
+
+abbrev pub empty_of : Lexeme → Sized Statement
+empty_of p = sized (empty p.span) 1
+
 abbrev pub catch_of : CatchHead → Sized Body → Sized Catch
 catch_of head b = sized (catch head.is_final (word_of head.class) (word_of head.name) b.tree) b.depth
 
@@ -121,8 +137,9 @@ assertion_of r e p = sized (assertion (join r.span p.span) e.tree) (e.depth + 1)
 abbrev pub set_of : Lexeme → Parsed → Lexeme → Parsed → Lexeme → Sized Statement
 set_of r target q e p = sized (set_statement (join r.span p.span) target.tree q.span e.tree) (max target.depth e.depth + 1)
 
-abbrev pub ghost_of : Lexeme → TypeTree → Lexeme → Lexeme → Parsed → Lexeme → Sized Statement
-ghost_of r t x q e p = sized (ghost_local (join r.span p.span) t (word_of x) q.span e.tree) (e.depth + 1)
+abbrev pub ghost_of : GhostHead → Parsed → Lexeme → Sized Statement
+ghost_of head e p =
+    sized (ghost_local (join head.first.span p.span) head.ty (word_of head.name) head.equals.span e.tree) (e.depth + 1)
 
 abbrev pub super_call_of : Lexeme → Listed → Lexeme → Sized Statement
 super_call_of r es p = sized (super_call (join r.span p.span) (expressions_of es.trees)) (es.depth + 1)

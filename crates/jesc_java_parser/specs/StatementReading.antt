@@ -3,7 +3,7 @@ use Rattle.std.specs.Prelude.{ℕ, zero, suc, ◌-◌, Bool, true, false, ◌&&�
 use Rattle.jesc_text.specs.declared.place.Span.{Span}
 use Rattle.jesc_ast.specs.declared.word.TypeTree.{TypeTree}
 use Rattle.jesc_ast.specs.Lexemes.{Lexeme, join}
-use Rattle.jesc_ast.specs.Trees.{Expression, super, Clause, clause, Statement, break, continue, empty, Body, Catch, OptionalStatement}
+use Rattle.jesc_ast.specs.Trees.{Expression, super, Clause, clause, Statement, Body, Catch, OptionalStatement}
 use Rattle.jesc_ast.specs.Expressions.{type_tree}
 use Rattle.jesc_ast.specs.Statements.{is_target, is_call}
 use Rattle.jesc_jml_parser.specs.declared.mark.Mark.{Mark}
@@ -18,7 +18,7 @@ use Rattle.jesc_jml_parser.specs.ClauseLists.{until}
 use Rattle.jesc_jml_parser.specs.ClauseReading.{Sized, sized, no_items, with_more}
 use Rattle.jesc_java_parser.specs.Lexing.{is_word, is_sign, next_is, see_if, take_if}
 use Rattle.jesc_java_parser.specs.StatementMarks.{peek_statement, is_assign, is_step, is_invariant, allows_branch, allows_loop, begins}
-pub use Rattle.jesc_java_parser.specs.StatementFound.{Piece, ForHead, CatchHead, local_of, assign_of, step_after_of, step_before_of, call_of, finished, part_of, no_part, some_value, no_value, body_of, block_of, branch_of, branch_else_of, while_of, head_of, for_of, return_of, throw_of, catch_of, attempt_of, assertion_of, set_of, ghost_of, super_call_of}
+pub use Rattle.jesc_java_parser.specs.StatementFound.{Piece, ForHead, CatchHead, GhostHead, local_of, assign_of, step_after_of, step_before_of, call_of, finished, part_of, no_part, some_value, no_value, body_of, block_of, branch_of, branch_else_of, while_of, head_of, for_of, return_of, throw_of, break_of, continue_of, empty_of, catch_of, attempt_of, assertion_of, set_of, ghost_of, super_call_of}
 
 -- ---- the parts of one statement
 
@@ -139,8 +139,12 @@ module _ (limit room : ℕ) (expression : Bool → ℕ → ℕ → ℕ → Start
     mark ← peek false
     if same_mark mark m.RightBracket && locals then array_local x else acted_from calls (behind_bracket x p)
 
+  -- a local whose type is this name
+  abbrev pub plain_local : Lexeme → Parser Piece
+  plain_local x = named_local x.span false (type_tree x.span x.text false)
+
   abbrev pub named_by : Bool → Bool → Lexeme → Mark → Parser Piece
-  named_by true calls x m.Name = named_local x.span false (type_tree x.span x.text false)
+  named_by true calls x m.Name = plain_local x
   named_by locals calls x m.LeftBracket = bracketed locals calls x
   named_by locals calls x _ = acted_from calls (behind_name x)
 
@@ -155,11 +159,17 @@ module _ (limit room : ℕ) (expression : Bool → ℕ → ℕ → ℕ → Start
     a ← headed false
     acted calls a
 
+  abbrev pub roomy_named : Bool → Bool → Parser Piece
+  roomy_named locals calls = deeper (named locals calls)
+
+  abbrev pub roomy_local : Parser Piece
+  roomy_local = deeper typed_local
+
   abbrev pub plain_by : Bool → Bool → Mark → Parser Piece
-  plain_by locals calls m.Name = deeper (named locals calls)
-  plain_by true calls m.Int = deeper typed_local
-  plain_by true calls m.Long = deeper typed_local
-  plain_by true calls m.Boolean = deeper typed_local
+  plain_by locals calls m.Name = roomy_named locals calls
+  plain_by true calls m.Int = roomy_local
+  plain_by true calls m.Long = roomy_local
+  plain_by true calls m.Boolean = roomy_local
   plain_by locals true m.Super = acted_from true at_first
   plain_by locals calls _ = headed_act calls
 
@@ -168,9 +178,15 @@ module _ (limit room : ℕ) (expression : Bool → ℕ → ℕ → ℕ → Start
     mark ← peek false
     plain_by locals calls mark
 
+  abbrev pub roomy_final : Parser Piece
+  roomy_final = deeper final_local
+
+  abbrev pub roomy_step : Parser Piece
+  roomy_step = deeper stepped_first
+
   abbrev pub simple_by : Bool → Bool → StatementMark → Parser Piece
-  simple_by true calls s.Final = deeper final_local
-  simple_by locals calls s.Step = deeper stepped_first
+  simple_by true calls s.Final = roomy_final
+  simple_by locals calls s.Step = roomy_step
   simple_by locals calls s.Other = plain locals calls
   simple_by locals calls _ = refuse
 
@@ -196,12 +212,16 @@ module _ (limit room : ℕ) (expression : Bool → ℕ → ℕ → ℕ → Start
     p ← expect false m.Semicolon
     pure (super_call_of r es p)
 
+  unfoldable pub super_method : Lexeme → Parser Parsed
+  super_method r = do
+    expect false m.Dot
+    x ← expect false m.Name
+    called false limit (room - 1) (expression false (room - 1)) quantifiers r.span super 0 x
+
   -- a call of a method, behind `super`, and what goes on with it
   unfoldable pub super_called_on : Lexeme → Parser Piece
   super_called_on r = do
-    expect false m.Dot
-    x ← expect false m.Name
-    a ← called false limit (room - 1) (expression false (room - 1)) quantifiers r.span super 0 x
+    a ← super_method r
     e ← longer false a
     acted true e
 
@@ -211,9 +231,12 @@ module _ (limit room : ℕ) (expression : Bool → ℕ → ℕ → ℕ → Start
     p ← expect false m.Semicolon
     pure (finished piece p)
 
+  abbrev pub roomy_super : Lexeme → Parser (Sized Statement)
+  roomy_super r = deeper (super_acted r)
+
   abbrev pub super_by : Lexeme → Mark → Parser (Sized Statement)
   super_by r m.LeftParen = super_constructed r
-  super_by r m.Dot = deeper (super_acted r)
+  super_by r m.Dot = roomy_super r
   super_by r _ = refuse
 
   unfoldable pub super_statement : Parser (Sized Statement)
@@ -268,18 +291,18 @@ module _ (limit room : ℕ) (expression : Bool → ℕ → ℕ → ℕ → Start
   broken = do
     r ← take_if (is_word (codes "break") false)
     p ← expect false m.Semicolon
-    pure (sized (break (join r.span p.span)) 1)
+    pure (break_of r p)
 
   unfoldable pub continued : Parser (Sized Statement)
   continued = do
     r ← take_if (is_word (codes "continue") false)
     p ← expect false m.Semicolon
-    pure (sized (continue (join r.span p.span)) 1)
+    pure (continue_of r p)
 
   unfoldable pub nothing : Parser (Sized Statement)
   nothing = do
     p ← expect false m.Semicolon
-    pure (sized (empty p.span) 1)
+    pure (empty_of p)
 
   -- ---- statements of annotations
 
@@ -299,15 +322,20 @@ module _ (limit room : ℕ) (expression : Bool → ℕ → ℕ → ℕ → Start
     p ← expect true m.Semicolon
     pure (set_of r a q e p)
 
-  unfoldable pub ghost_ : Parser (Sized Statement)
-  ghost_ = do
+  unfoldable pub ghost_head : Parser GhostHead
+  ghost_head = do
     r ← take_if (is_word (codes "ghost") true)
     t ← type_inside true
     x ← expect true m.Name
     q ← take_if (is_sign (codes "=") true)
+    pure (record { first = r; ty = t; name = x; equals = q })
+
+  unfoldable pub ghost_ : Parser (Sized Statement)
+  ghost_ = do
+    head ← ghost_head
     e ← whole true
     p ← expect true m.Semicolon
-    pure (ghost_of r t x q e p)
+    pure (ghost_of head e p)
 
   -- ---- the head of a `for`, whose parts are statements inside
 
@@ -349,11 +377,15 @@ module _ (limit room : ℕ) (expression : Bool → ℕ → ℕ → ℕ → Start
     take_if (is_sign (codes "{") false)
     body_rest no_items
 
+  unfoldable pub block_behind : Lexeme → Parser (Sized Statement)
+  block_behind p = do
+    b ← body_rest no_items
+    pure (block_of p b)
+
   unfoldable pub block_ : Parser (Sized Statement)
   block_ = do
     p ← take_if (is_sign (codes "{") false)
-    b ← body_rest no_items
-    pure (block_of p b)
+    block_behind p
 
   -- a constructor's body, whose first statement may begin with `super`
   unfoldable pub super_first : Parser (Sized Body)
