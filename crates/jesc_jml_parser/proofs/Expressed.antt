@@ -28,7 +28,7 @@ use Rattle.jesc_jml_parser.specs.Whole.{found, only, unexpected, deep, parsed_of
 use Rattle.jesc_jml_parser.specs.Refusals.{IsErrorOf, IsRefusal, IsFault, place_of_next, is_quantifier_next}
 use Rattle.jesc_jml_parser.specs.Parsed.{lexemes_from, IsFound, IsAnswer, IsExpressionRefusal, whole, IsGiven}
 
-pub count : (tokens : Tokens) (from : ℕ) → length (lexemes_from tokens from) ≡ length tokens.list - from
+count : (tokens : Tokens) (from : ℕ) → length (lexemes_from tokens from) ≡ length tokens.list - from
 count tokens from = length-drop from (lexemes tokens) ∙ ap (λ (n : ℕ). n - from) (length-map tokens.list (lexeme_of tokens.text))
 
 pub seen_from : (text : List ℕ) (list : List Token) (from : ℕ) → map (lexeme_of text) (drop from list) ≡ drop from (map (lexeme_of text) list)
@@ -92,7 +92,7 @@ quantifier_text : (w : List ℕ) (all : Bool) → IsQuantifier w all → IsTrue 
 quantifier_text w all is_forall = refl
 quantifier_text w all is_exists = refl
 
-pub quantifier_at : (note : Bool) (tokens : Tokens) (list : List Token) (at : ℕ)
+quantifier_at : (note : Bool) (tokens : Tokens) (list : List Token) (at : ℕ)
     → is_quantifier_mark (mark_at note (drop at (map (lexeme_of tokens.text) list))) ≡ true → IsTrue (is_quantifier_next tokens (slice_get list at))
 unfolding mark_at
 quantifier_at note tokens [] zero e = absurd cc

@@ -7,9 +7,6 @@ use Rattle.jesc_ast.specs.Lexemes.{Lexeme, join}
 use Rattle.jesc_ast.specs.Trees.{Expression, member, index, Clause}
 use Rattle.jesc_ast.specs.SpecTrees as trees
 use Rattle.jesc_ast.specs.SpecTrees.{StoreForm, Store, store, Promise, Case, case_of, Specification}
-use Rattle.jesc_ast.specs.FileTrees as members
-use Rattle.jesc_ast.specs.FileTrees.{MemberForm, Member, member_of}
-use Rattle.jesc_ast.specs.declared.word.TypeTree.{TypeTree}
 use Rattle.jesc_ast.specs.Expressions.{span_of}
 use Rattle.jesc_ast.specs.Specifications.{is_visibility}
 use Rattle.jesc_jml_parser.specs.Reading.{Parsed, word_of, over, over_two}
@@ -107,12 +104,6 @@ no_value = record { equals = None; e = None; depth = 0 }
 
 abbrev pub value_of : Lexeme → Parsed → Value
 value_of equals e = record { equals = Some equals.span; e = Some e.tree; depth = e.depth }
-
-abbrev pub field_of : List Word → TypeTree → Lexeme → Value → Ended (List Word) → Ended MemberForm
-field_of ws ty y v gs = record { tree = members.spec_field ws ty (word_of y) v.equals v.e gs.tree; depth = v.depth; last = gs.last }
-
-abbrev pub member_tree : Span → Ended MemberForm → Sized Member
-member_tree first f = sized (member_of (join first f.last) f.tree) f.depth
 
 -- ---- modifiers
 

@@ -4,7 +4,7 @@ use Rattle.std.specs.Prelude.{ℕ, zero, suc, Bool, true, false, if◌then◌els
 use Rattle.jesc_text.specs.declared.place.Span.{Span}
 use Rattle.jesc_ast.specs.declared.word.Word.{Word}
 use Rattle.jesc_ast.specs.declared.word.TypeTree.{TypeTree}
-use Rattle.jesc_ast.specs.Lexemes.{Lexeme}
+use Rattle.jesc_ast.specs.Lexemes.{Lexeme, join}
 use Rattle.jesc_ast.specs.Trees.{Expression, name, Clause, clause}
 use Rattle.jesc_ast.specs.SpecTrees as trees
 use Rattle.jesc_ast.specs.SpecTrees.{StoreForm, Store, store, Promise, Case, Specification}
@@ -20,7 +20,7 @@ use Rattle.jesc_jml_parser.specs.Reading as reading
 use Rattle.jesc_jml_parser.specs.Reading.{Parsed, Start, at_first, word_of, leaf}
 use Rattle.jesc_jml_parser.specs.ClauseMarks.{same_word, word_at, peek_word, expect_word, at_word, at_mark, peek_span, is_heading_word, may_begin_clause, is_modifier_word, is_represents_sign}
 use Rattle.jesc_jml_parser.specs.ClauseLists.{until, separated, more_separated}
-pub use Rattle.jesc_jml_parser.specs.ClauseFound.{Sized, Ended, sized, ended, no_items, with_more, none_behind, with_ended, with_word, Path, closed, store_of, StoreStep, star_of, all_of, range_of, member_path, signals_of, optional_word, span_from, case_tree, spec_of, Value, no_value, value_of, field_of, member_tree, is_visibility_word, is_instance_word, allow_invariant, allow_represents, allow_field, first_word, plain, with_index, goes_on, is_read}
+pub use Rattle.jesc_jml_parser.specs.ClauseFound.{Sized, Ended, sized, ended, no_items, with_more, none_behind, with_ended, with_word, Path, closed, store_of, StoreStep, star_of, all_of, range_of, member_path, signals_of, optional_word, span_from, case_tree, spec_of, Value, no_value, value_of, is_visibility_word, is_instance_word, allow_invariant, allow_represents, allow_field, first_word, plain, with_index, goes_on, is_read}
 
 -- ---- the grammar
 
@@ -379,7 +379,7 @@ module _ (limit room : ℕ) (inner : ℕ → ℕ → Start → Parser Parsed) (q
     v ← value
     q ← expect true m.Semicolon
     gs ← groups q
-    pure (field_of ws ty y v gs)
+    pure (record { tree = members.spec_field ws ty (word_of y) v.equals v.e gs.tree; depth = v.depth; last = gs.last })
 
   -- behind all modifiers
   unfoldable pub field_behind : List Word → Parser (Ended MemberForm)
@@ -407,7 +407,7 @@ module _ (limit room : ℕ) (inner : ℕ → ℕ → Start → Parser Parsed) (q
   unfoldable pub member_behind : Span → List Word → Parser (Sized Member)
   member_behind first ws = do
     f ← form_behind ws
-    pure (member_tree first f)
+    pure (sized (member_of (join first f.last) f.tree) f.depth)
 
   -- the longest invariant, represents clause or specification field
   unfoldable pub member_annotation : Parser (Sized Member)

@@ -355,7 +355,7 @@ module _ (same : Bool) (limit limit' : ℕ) (limits : limit ≤ limit') (room ro
   unfolding spec.modifier
   refines_modifier = chain _ _ _ _ sight (λ word. refines_if same (is_modifier_word word) _ _ _ _ (refines_take_one same) (refines_refuse same))
 
-  pub refines_modifiers : (ws : List Word) → Refines same (spec.modifiers limit room less k ws) (spec.modifiers limit' room' more k' ws)
+  refines_modifiers : (ws : List Word) → Refines same (spec.modifiers limit room less k ws) (spec.modifiers limit' room' more k' ws)
   unfolding spec.modifiers
   refines_modifiers ws = refines_until same _ (by_word is_modifier_word) _ _ _ refines_modifier limit limit' limits ws
 
@@ -384,7 +384,7 @@ module _ (same : Bool) (limit limit' : ℕ) (limits : limit ≤ limit') (room ro
   unfolding spec.some_groups
   refines_some_groups = chain _ _ _ _ (eat_word w.In) (λ s. chain _ _ _ _ refines_names (λ ws. chain _ _ _ _ (eat m.Semicolon) (λ q. refines_pure same _)))
 
-  pub refines_groups : (last : Lexeme) → Refines same (spec.groups limit room less k last) (spec.groups limit' room' more k' last)
+  refines_groups : (last : Lexeme) → Refines same (spec.groups limit room less k last) (spec.groups limit' room' more k' last)
   unfolding spec.groups
   refines_groups last = chain _ _ _ _ sight (λ word. refines_if same (same_word word w.In) _ _ _ _ refines_some_groups (refines_pure same (spec.ended [] 0 last)))
 
@@ -406,7 +406,7 @@ module _ (same : Bool) (limit limit' : ℕ) (limits : limit ≤ limit') (room ro
   refines_form_by ws w.Field = refines_if same (spec.allow_field ws) _ _ _ _ (refines_spec_field_behind ws) (refines_refuse same)
   refines_form_by ws _ = refines_refuse same
 
-  pub refines_form_behind : (ws : List Word) → Refines same (spec.form_behind limit room less k ws) (spec.form_behind limit' room' more k' ws)
+  refines_form_behind : (ws : List Word) → Refines same (spec.form_behind limit room less k ws) (spec.form_behind limit' room' more k' ws)
   unfolding spec.form_behind
   refines_form_behind ws = chain _ _ _ _ sight (refines_form_by ws)
 

@@ -19,7 +19,7 @@ module _ (note : Bool) (limit : ℕ) where
   whole = read_whole note limit
 
   mutual
-    pub climbs : {k : ℕ} {e : Expression} {u : List Lexeme} → Spells note k e u → length u ≤ limit → Climbs note limit k e u
+    climbs : {k : ℕ} {e : Expression} {u : List Lexeme} → Spells note k e u → length u ≤ limit → Climbs note limit k e u
     climbs (is_number s x) le = number_climbs note limit s x
     climbs (is_true s) le = true_climbs note limit s
     climbs (is_false s) le = false_climbs note limit s

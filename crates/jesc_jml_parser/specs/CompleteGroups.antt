@@ -31,7 +31,7 @@ unfolding same_mark
 name_or m.Name = inl refl
 name_or _ = inr refl
 
-pub bracket_or : (mark : Mark) → (mark ≡ m.RightBracket) ⊎ (same_mark mark m.RightBracket ≡ false)
+bracket_or : (mark : Mark) → (mark ≡ m.RightBracket) ⊎ (same_mark mark m.RightBracket ≡ false)
 unfolding same_mark
 bracket_or m.RightBracket = inl refl
 bracket_or _ = inr refl
@@ -180,7 +180,7 @@ index_read note limit (suc (suc room)) quantifiers least p q n e x (b ∷ ts) re
     let inner = expr note limit (suc (suc room)) in
     let started = bracket_start note limit (suc (suc room)) quantifiers 1 x b ts (omega arith) (omega arith) at next in
     elim (bracket_or (mark_at note ts)) [
-      | inl none ↦ absurd (cc (read, started, brackets_refused note limit room quantifiers 1 x b ts none))
+      | inl none ↦ absurd (cc (read, started, brackets_refused note limit room quantifiers x b ts none))
       | inr some ↦ bracket_is note limit (suc (suc room)) inner quantifiers least (sign note "(" p) x b ts next some
           ∙ grouped_is note limit (suc (suc room)) inner quantifiers p q (behind_bracket x b) (parsed n e) ts rest (sym started ∙ read)
     ]

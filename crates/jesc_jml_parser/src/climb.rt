@@ -17,8 +17,7 @@ use std::alloc::Global;
 impl<
     F: Fn(Global, &mut Cursor<'_>, usize, usize, usize, Start<'_>) -> Result<Found, ParseError>,
 > Grammar<F> {
-    /// What goes on with an expression, in so many turns at most.
-    pub fn climb(
+    fn climb(
         &self,
         cursor: &mut Cursor<'_>,
         least: usize,

@@ -66,13 +66,6 @@ impl<'a> Cursor<'a> {
         same_mark(self.peek(), mark)
     }
 
-    /// Whether the next token is of this word.
-    pub fn is_at_word(&self, word: NoteWord) -> bool
-        ensures { result ≡ spec.at_word word (seen self.now) }
-    {
-        same_word(self.peek_word(), word)
-    }
-
     /// Takes the next token, if it is of this mark.
     pub fn expect_note(&mut self, mark: Mark) -> Result<Lexeme<'a>, ParseError>
         requires { self.old.note ≡ true }

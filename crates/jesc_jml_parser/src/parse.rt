@@ -28,7 +28,7 @@ pub const QUANTIFIERS: usize = 3;
 
 /// The tokens from this one on, seen from code or, with `note`, from annotations.
 #[tactic(auto, using(crate::proofs::Spanned::are_left_within, crate::proofs::Expressed::seen_from))]
-pub fn cursor_at<'a>(tokens: &'a Tokens, from: u32, note: bool) -> Cursor<'a>
+fn cursor_at<'a>(tokens: &'a Tokens, from: u32, note: bool) -> Cursor<'a>
     requires within { IsTrue (list_all (is_within (length tokens.now.text)) tokens.now.list) }
     requires from { from ≤ length tokens.now.list }
     ensures seen { seen result ≡ lexemes_from tokens.now from }
@@ -43,7 +43,7 @@ pub fn cursor_at<'a>(tokens: &'a Tokens, from: u32, note: bool) -> Cursor<'a>
 }
 
 /// The number of the token at which so many are left.
-pub fn number_of(tokens: &Tokens, left: usize) -> u32
+fn number_of(tokens: &Tokens, left: usize) -> u32
     requires few { length tokens.now.list ≤ 1048576 }
     ensures { result ≡ length tokens.now.list - left }
 {

@@ -26,7 +26,7 @@ pub fn text_at<'a>(text: &'a [u8], token: Token) -> &'a [u8]
     &text[token.span.from as usize..token.span.to as usize]
 }
 
-pub fn is_same_side(a: bool, b: bool) -> bool
+fn is_same_side(a: bool, b: bool) -> bool
     ensures { result ≡ marks.is_same_side a b }
 {
     if a { b } else { !b }
