@@ -1,5 +1,5 @@
 -- The trees of methods' specifications as plain data, and how the program's trees are seen as it.
-use Rattle.std.specs.Prelude.{Bool, Option, Some, None, List, [], ◌∷◌, map}
+use Rattle.std.specs.Prelude.{Bool, Option, Some, None, List, map}
 use Rattle.jesc_text.specs.declared.place.Span.{Span}
 use Rattle.jesc_ast.specs.declared.word.Word.{Word}
 use Rattle.jesc_ast.specs.declared.spec.StoreTree.{StoreTree}

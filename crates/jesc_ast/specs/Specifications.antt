@@ -6,7 +6,7 @@ use Rattle.jesc_ast.specs.declared.word.Word.{Word}
 use Rattle.jesc_ast.specs.Lexemes.{Lexeme, word, backslash, sign, chosen_word, kept, join, span_of_all}
 use Rattle.jesc_ast.specs.Words.{is_one_of, is_name}
 use Rattle.jesc_ast.specs.Trees.{Expression, this, name, member, index, Clause, clause}
-use Rattle.jesc_ast.specs.SpecTrees.{StoreForm, nothing, everything, path, star, element, range, all_elements, Store, store, Promise, promises, assigns, signals, signals_only, Case, case_of, Specification, specification}
+use Rattle.jesc_ast.specs.SpecTrees.{nothing, everything, path, star, element, range, all_elements, Store, store, Promise, promises, assigns, signals, signals_only, Case, case_of, Specification, specification}
 use Rattle.jesc_ast.specs.Expressions.{span_of, SpellsExpression}
 use Rattle.jesc_ast.specs.Statements.{SpellsOption, SpellsClauses}
 

@@ -2,7 +2,6 @@
 -- `ghost` or a loop's invariants stands in annotations.
 use Rattle.std.specs.Prelude.{◌≡◌, ℕ, Bool, true, false, IsTrue, Option, Some, None, List, [], ◌∷◌, ◌++◌, codes}
 use Rattle.jesc_text.specs.declared.place.Span.{Span}
-use Rattle.jesc_ast.specs.declared.word.Word.{Word}
 use Rattle.jesc_ast.specs.declared.word.TypeTree.{TypeTree}
 use Rattle.jesc_ast.specs.Lexemes.{Lexeme, word, sign, chosen_word, chosen_sign, kept, join}
 use Rattle.jesc_ast.specs.Words.{is_one_of, is_name}

@@ -52,7 +52,7 @@ abbrev pub begins : (ℕ → Bool) → List ℕ → Bool
 begins p [] = false
 begins p (x ∷ xs) = p x
 
--- the bytes of the first character
+-- the bytes of a character; none where there is none
 abbrev pub spelled : Option ℕ → List ℕ
 spelled None = []
 spelled (Some c) = encode_utf8 c

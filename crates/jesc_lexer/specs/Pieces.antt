@@ -39,7 +39,7 @@ blank_len block bytes =
     let white = prefix_len is_white bytes in
     if block && list_any is_line_feed (take white bytes) then white + prefix_len is_at_sign (drop white bytes) else white
 
--- a block comment: in code up to the next `*/`, without which it is refused
+-- a comment that begins with `/*`, by the distance of the `*/` that ends it; it is refused where there is none
 abbrev pub skip_comment : Option ℕ → Piece
 skip_comment None = Bad 2 None
 skip_comment (Some k) = Blank (k + 4)

@@ -1,8 +1,7 @@
 //! What begins a text in code and inside an annotation: white space, a comment, an annotation or a token.
-ghost use Rattle.std.specs.Prelude.{find, not, ◌≡◌, ◌≤◌, ◌<◌, ◌+◌, ◌^◌, length, drop, take, Option, IfSome};
-ghost use Rattle.std.specs.List.{prefix_len};
-ghost use Rattle.std.specs.Str.{IsCharBoundary, chars};
-ghost use Rattle.jesc_lexer.specs.Characters.{begins, is_at_sign, is_key_mark};
+ghost use Rattle.std.specs.Prelude.{find, not, ◌≡◌, ◌<◌, ◌+◌, ◌^◌, length, Option, IfSome};
+ghost use Rattle.std.specs.Str.{chars};
+ghost use Rattle.jesc_lexer.specs.Characters.{begins, is_key_mark};
 ghost use Rattle.jesc_lexer.specs.Pieces.{blank_len, skip_comment, is_conditional, is_key_part, note_piece, annotation, comment, block_comment, line_comment, code_piece};
 
 use crate::lexeme::token_at;

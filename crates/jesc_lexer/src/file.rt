@@ -1,5 +1,4 @@
-ghost use Rattle.std.specs.Prelude.{◌≡◌, ℕ, ◌≤◌, ◌<◌, ◌+◌, [], length, drop, IfOk, Ok, Err, Result};
-ghost use Rattle.std.specs.Str.{IsUtf8, chars};
+ghost use Rattle.std.specs.Prelude.{◌≡◌, ℕ, ◌≤◌, ◌<◌, length, IfOk, Ok, Err, Result};
 ghost use Rattle.jesc_lexer.specs.Characters.{spelled};
 ghost use Rattle.jesc_lexer.specs.Lexed.{Outcome, Lexed, IsLexed, IsRefused, IsError, Answers, Gives};
 ghost use Rattle.jesc_lexer.specs.Texts.{AreTexts};

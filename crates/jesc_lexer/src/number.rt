@@ -4,7 +4,7 @@ ghost use Rattle.std.specs.Str.{IsCharBoundary, chars};
 ghost use Rattle.std.specs.Char.{is_ascii_digit};
 ghost use Rattle.unicode_ident.specs.Ident.{is_xid_continue};
 ghost use Rattle.jesc_lexer.specs.Characters.{begins, is_suffix};
-ghost use Rattle.jesc_lexer.specs.Lexemes.{digits_len, digits_value_of, number_at, number_len};
+ghost use Rattle.jesc_lexer.specs.Lexemes.{digits_len, digits_value_of, number_at};
 
 use crate::piece::Piece;
 use crate::scan::{digit_run, first_char, last_underscores, rest_of};

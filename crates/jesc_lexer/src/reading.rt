@@ -1,5 +1,5 @@
 //! Reading a text piece by piece: the code of a file, and the inside of each of its annotations.
-ghost use Rattle.std.specs.Prelude.{ℕ, true, ◌≡◌, ◌≤◌, ◌<◌, ◌+◌, ◌-◌, ◌∷◌, ◌++◌, [], length, drop, take, OnOk, IfOk};
+ghost use Rattle.std.specs.Prelude.{true, ◌≡◌, ◌≤◌, ◌<◌, ◌+◌, ◌-◌, ◌∷◌, ◌++◌, [], length, drop, take, OnOk, IfOk};
 ghost use Rattle.std.specs.Str.{IsCharBoundary};
 ghost use Rattle.jesc_lexer.specs.Reading.{token_text, token, is_word, is_represents, after_represents, behind, behind_code, note_tokens, code_tokens, Continues, Reads, fits_at, StopsBy};
 ghost use Rattle.jesc_lexer.specs.Spans.{AreSpans, AreBefore, Ends, IsStep, Bytes};

@@ -1,11 +1,9 @@
 //! How far runs of bytes and of characters reach from the beginning of a text.
-ghost use Rattle.std.specs.Prelude.{◌≡◌, ◌≤◌, ◌<◌, ◌+◌, ◌||◌, ◌&&◌, ◌==◌, ◌↔◌, length, drop, take, nat_lt, not, IsTrue, IfSome, codes, nat_eq, if◌then◌else◌};
+ghost use Rattle.std.specs.Prelude.{◌≡◌, ◌≤◌, ◌<◌, ◌+◌, ◌||◌, ◌==◌, length, drop, IsTrue, IfSome, codes, nat_eq};
 ghost use Rattle.std.specs.List.{prefix_len, suffix_len, starts_with, list_any};
-ghost use Rattle.std.specs.Str.{IsUtf8, IsCharBoundary, chars};
-ghost use Rattle.unicode_ident.specs.Ident.{is_xid_start, is_xid_continue};
-ghost use Rattle.jesc_lexer.specs.Characters.{is_white, is_line_feed, is_at_sign, is_underscore, is_digit_part, is_backslash_part, is_word_start, is_word_part, is_key_mark, first_of, begins};
-ghost use Rattle.jesc_lexer.specs.Lexemes.{word_len};
-ghost use Rattle.jesc_lexer.specs.Pieces.{line_len, closing, is_key_part, is_conditional};
+ghost use Rattle.std.specs.Str.{IsCharBoundary, chars};
+ghost use Rattle.jesc_lexer.specs.Characters.{is_white, is_line_feed, is_at_sign, is_underscore, is_digit_part, is_backslash_part, first_of};
+ghost use Rattle.jesc_lexer.specs.Pieces.{line_len, closing};
 
 /// Whether the byte is white space.
 pub fn is_white(byte: u8) -> bool

@@ -232,7 +232,7 @@ const SIGNS: [Case; 36] = [
 ];
 
 // Which refusal comes first.
-const ORDER: [Case; 8] = [
+const ORDER: [Case; 7] = [
     ("# /*", "L3 1:1 #"),
     ("1x #", "L4 1:1 "),
     ("a\n  #", "L3 2:3 #"),
@@ -240,7 +240,6 @@ const ORDER: [Case; 8] = [
     ("é #", "L3 1:4 #"),
     ("//@ # \n//+K@", "L3 1:5 #"),
     ("class Cut {\n  /*@ ensures", "L2 2:3 "),
-    ("# \\u", "L5 1:3 "),
 ];
 
 /// An annotated class of about 2,000 bytes.

@@ -2,8 +2,8 @@
 ghost use Rattle.std.specs.Prelude.{◌≡◌, ◌<◌, ◌||◌, ◌==◌, length};
 ghost use Rattle.std.specs.List.{prefix_len};
 ghost use Rattle.std.specs.Char.{is_ascii_alphabetic};
-ghost use Rattle.std.specs.Str.{IsCharBoundary, chars};
-ghost use Rattle.jesc_lexer.specs.Characters.{is_word_start, is_word_part, is_ascii_word_part, is_key_mark, is_at_sign, begins};
+ghost use Rattle.std.specs.Str.{chars};
+ghost use Rattle.jesc_lexer.specs.Characters.{is_word_start, is_word_part, is_ascii_word_part, begins};
 ghost use Rattle.jesc_lexer.specs.Lexemes.{word_len};
 
 use crate::scan::{first_char, rest_of};
