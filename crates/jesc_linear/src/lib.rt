@@ -2,6 +2,7 @@
 #![tactic(auto)]
 
 mod back;
+mod entry;
 mod log;
 mod normal;
 mod outcome;
@@ -9,6 +10,7 @@ mod point;
 mod rows;
 mod stage;
 mod steps;
+mod sum;
 mod table;
 
 pub use outcome::{Outcome, decide};

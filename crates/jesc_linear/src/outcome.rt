@@ -4,12 +4,13 @@ ghost use Rattle.jesc_linear.specs.Forms.{IsForm};
 ghost use Rattle.jesc_linear.specs.Evidence.{HasEvidence, IsSound};
 
 use crate::back::{go_back, point_of};
+use crate::entry::put_rows;
 use crate::log::{row_of_line, steps_of};
 use crate::point::are_met;
 use crate::rows::{LinStep, Row};
 use crate::stage::eliminate;
 use crate::steps::check_steps;
-use crate::table::{Stop, Table, put_rows};
+use crate::table::{Stop, Table};
 use jesc_text::{List, OutOfMemory};
 use std::alloc::Global;
 

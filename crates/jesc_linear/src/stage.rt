@@ -1,9 +1,10 @@
 //! The elimination, stage by stage: the variable in the fewest pairs of an upper and a lower row is cancelled in each pair, and its rows are
 //! set aside. An upper row has the variable with a positive coefficient, a lower row with a negative one.
 use crate::normal::coefficient_at;
+use crate::sum::put_sum;
 use crate::table::{
     Held, Stage, Stop, Table, Variable, append, discount_rows, dismiss, form_at, keep_standing,
-    put_sum, stands,
+    stands,
 };
 use jesc_text::OutOfMemory;
 

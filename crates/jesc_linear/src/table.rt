@@ -6,16 +6,10 @@
 //! holds the same lines by number.
 ghost use Rattle.std.specs.Prelude.{◌<◌, ◌^◌, length};
 
-use crate::normal::{
-    Part, common_divisor, compare, divide, divisor_of, is_wide_coefficient, is_wide_number,
-    rounded_down,
-};
+use crate::normal::Part;
 use crate::rows::Row;
 use jesc_text::OutOfMemory;
 use std::alloc::Global;
-
-/// The most rows that the table may hold.
-const MOST_ROWS: usize = 3_000;
 
 /// Why the elimination ends before every variable is gone, or finds no value on the way back.
 #[derive(Debug, Drop)]
@@ -113,15 +107,6 @@ pub fn append<T: Drop>(items: &mut Vec<T>, item: T) -> Result<(), OutOfMemory> {
     }
 }
 
-/// Puts an item before the one at this place, or at the end.
-fn insert(items: &mut Vec<usize>, at: usize, item: usize) -> Result<(), OutOfMemory> {
-    let at = at.min(items.len());
-    match items.insert(at, item) {
-        Ok(_) => Ok(()),
-        Err(_) => Err(OutOfMemory),
-    }
-}
-
 /// The stretch of parts that is a line's form.
 pub fn form_of<'a>(parts: &'a [Part], line: &Line) -> &'a [Part] {
     match parts.get(line.start..line.end) {
@@ -193,263 +178,10 @@ impl Table {
     }
 }
 
-/// Puts the input rows into the table, in order.
-pub fn put_rows(table: &mut Table, rows: &[Row]) -> Result<(), Stop>
-    requires { length rows.now < 2 ^ 31 }
-{
-    for k in 0..rows.len() {
-        put_row(table, k as u32, &rows[k])?;
-    }
-    Ok(())
-}
-
-/// Puts an input row into the table. It is looked at before its division.
-fn put_row(table: &mut Table, number: u32, row: &Row) -> Result<(), Stop> {
-    take_parts(table, row.form.as_slice())?;
-    look_at(table.made.as_slice(), row.bound)?;
-    let divisor = divisor_of(table.made.as_slice());
-    divide(table.made.as_mut_slice(), divisor);
-    let bound = rounded_down(row.bound, divisor);
-    enter(table, bound, number, Origin::Given(number, divisor))?;
-    Ok(())
-}
-
-/// Makes the form at work from an input row's.
-fn take_parts(table: &mut Table, form: &[(i64, u32)]) -> Result<(), OutOfMemory> {
-    table.made.clear();
-    for part in form {
-        let place = place_of(table.variables.as_slice(), part.1);
-        append(
-            &mut table.made,
-            Part {
-                coefficient: part.0,
-                place,
-            },
-        )?;
-    }
-    Ok(())
-}
-
-/// The place of a term that occurs.
-fn place_of(variables: &[Variable], term: u32) -> usize {
-    match variables.binary_search_by(|variable| variable.term.cmp(&term)) {
-        Ok(place) => place,
-        Err(place) => place,
-    }
-}
-
-/// Stops at the first number out of range, the coefficients from the left and then the bound.
-fn look_at(form: &[Part], bound: i128) -> Result<(), Stop> {
-    for part in form {
-        if is_wide_coefficient(part.coefficient) {
-            return Err(Stop::Number(part.coefficient as i128));
-        }
-    }
-    if is_wide_number(bound) {
-        return Err(Stop::Number(bound));
-    }
-    Ok(())
-}
-
-/// Puts the sum of an upper and a lower row into the table, with the least positive multipliers that cancel their variable. It is looked at
-/// after its division.
-///
-/// Coefficients are at most 2^31 in size and the two multipliers are not both 2^31, so each coefficient of the sum is below 2^63 in size; the
-/// sum's bound is at most 2^126. Were it otherwise, saturation would leave a number out of range.
-pub fn put_sum(table: &mut Table, upper: Held, lower: Held) -> Result<(), Stop> {
-    let divisor = common_divisor(
-        upper.coefficient.unsigned_abs(),
-        lower.coefficient.unsigned_abs(),
-    );
-    let sum = Sum {
-        first_times: size_over(lower.coefficient, divisor),
-        first: upper.line,
-        second_times: size_over(upper.coefficient, divisor),
-        second: lower.line,
-        divisor: 1,
-    };
-    let bound = add_lines(table, sum)?;
-    let divisor = divisor_of(table.made.as_slice());
-    divide(table.made.as_mut_slice(), divisor);
-    let bound = rounded_down(bound, divisor);
-    look_at(table.made.as_slice(), bound)?;
-    let number = table.next;
-    if enter(table, bound, number, Origin::Summed(Sum { divisor, ..sum }))? {
-        table.next = number.saturating_add(1);
-    }
-    Ok(())
-}
-
-/// The size of a coefficient over a divisor of it.
-fn size_over(coefficient: i64, divisor: u64) -> i64 {
-    let size = coefficient.unsigned_abs();
-    let size = if divisor > 1 { size / divisor } else { size };
-    match i64::try_from(size) {
-        Ok(size) => size,
-        Err(_) => i64::MAX,
-    }
-}
-
-/// Makes the form at work the sum of two lines' forms with their multipliers, and gives the sum's bound.
-fn add_lines(table: &mut Table, sum: Sum) -> Result<i128, OutOfMemory> {
-    match (table.lines.get(sum.first), table.lines.get(sum.second)) {
-        (Some(first), Some(second)) => {
-            let left = (sum.first_times as i128).saturating_mul(first.bound);
-            let right = (sum.second_times as i128).saturating_mul(second.bound);
-            let first = form_of(table.parts.as_slice(), first);
-            let second = form_of(table.parts.as_slice(), second);
-            add_forms(
-                &mut table.made,
-                first,
-                sum.first_times,
-                second,
-                sum.second_times,
-            )?;
-            Ok(left.saturating_add(right))
-        }
-        _ => Ok(0),
-    }
-}
-
-/// Makes the sum of two forms with multipliers, without the terms that cancel.
-fn add_forms(
-    made: &mut Vec<Part>,
-    first: &[Part],
-    first_times: i64,
-    second: &[Part],
-    second_times: i64,
-) -> Result<(), OutOfMemory> {
-    made.clear();
-    let mut at = 0;
-    for part in first {
-        at = copy_below(made, second, at, part.place, second_times)?;
-        let left = part.coefficient.saturating_mul(first_times);
-        let met = coefficient_here(second, at, part.place);
-        if met != 0 {
-            at = at.saturating_add(1);
-        }
-        let right = met.saturating_mul(second_times);
-        append_part(made, left.saturating_add(right), part.place)?;
-    }
-    copy_below(made, second, at, usize::MAX, second_times)?;
-    Ok(())
-}
-
-/// The coefficient of the part there, if it is of this variable, and else 0.
-fn coefficient_here(form: &[Part], at: usize, place: usize) -> i64 {
-    match form.get(at) {
-        Some(part) => {
-            if part.place == place {
-                part.coefficient
-            } else {
-                0
-            }
-        }
-        None => 0,
-    }
-}
-
-/// Appends the parts from here whose places are below the limit, times a factor, and gives the place of the first that isn't.
-fn copy_below(
-    made: &mut Vec<Part>,
-    form: &[Part],
-    start: usize,
-    limit: usize,
-    times: i64,
-) -> Result<usize, OutOfMemory> {
-    for at in start..form.len() {
-        let part = form[at];
-        if part.place >= limit {
-            return Ok(at);
-        }
-        append_part(made, part.coefficient.saturating_mul(times), part.place)?;
-    }
-    Ok(form.len())
-}
-
-fn append_part(made: &mut Vec<Part>, coefficient: i64, place: usize) -> Result<(), OutOfMemory> {
-    if coefficient == 0 {
-        return Ok(());
-    }
-    append(made, Part { coefficient, place })
-}
-
-/// Enters the form at work with this bound, and tells whether it stays: an empty form is dropped or ends the search, and of two equal forms
-/// the one with the lesser bound stays, at a tie the older one.
-fn enter(table: &mut Table, bound: i128, number: u32, origin: Origin) -> Result<bool, Stop> {
-    if table.made.is_empty() {
-        return if bound < 0 {
-            Err(Stop::Absurd(bound, origin))
-        } else {
-            Ok(false)
-        };
-    }
-    let line = table.lines.len();
-    match find_form(table) {
-        Ok(at) => {
-            if !replaces(table, at, bound) {
-                return Ok(false);
-            }
-            replace(table, at, line);
-        }
-        Err(at) => {
-            insert(&mut table.order, at, line)?;
-            count_rows(&mut table.variables, table.made.as_slice());
-        }
-    }
-    append_line(table, bound, number, origin)?;
-    look_at_length(table)?;
-    Ok(true)
-}
-
-/// Where the form at work stands in the order of forms, or where it has to go.
-fn find_form(table: &Table) -> Result<usize, usize> {
-    let parts = table.parts.as_slice();
-    let lines = table.lines.as_slice();
-    let made = table.made.as_slice();
-    table
-        .order
-        .as_slice()
-        .binary_search_by(|line| compare(form_at(parts, lines, *line), made))
-}
-
-/// Whether a bound is less than that of the row at this place in the order.
-fn replaces(table: &Table, at: usize, bound: i128) -> bool {
-    match table.order.get(at) {
-        Some(line) => match table.lines.get(*line) {
-            Some(older) => bound < older.bound,
-            None => true,
-        },
-        None => true,
-    }
-}
-
-/// Lets a new line stand in the place of the one that has its form.
-fn replace(table: &mut Table, at: usize, line: usize) {
-    if let Some(place) = table.order.get_mut(at) {
-        let older = *place;
-        *place = line;
-        dismiss(&mut table.lines, older);
-    }
-}
-
 /// Takes a line's row out of the table.
 pub fn dismiss(lines: &mut Vec<Line>, at: usize) {
     if let Some(line) = lines.get_mut(at) {
         line.stands = false;
-    }
-}
-
-/// Counts a row more for each variable of its form.
-fn count_rows(variables: &mut Vec<Variable>, form: &[Part]) {
-    for part in form {
-        if let Some(variable) = variables.get_mut(part.place) {
-            if part.coefficient > 0 {
-                variable.uppers = variable.uppers.saturating_add(1);
-            } else {
-                variable.lowers = variable.lowers.saturating_add(1);
-            }
-        }
     }
 }
 
@@ -463,43 +195,6 @@ pub fn discount_rows(variables: &mut Vec<Variable>, form: &[Part]) {
                 variable.lowers = variable.lowers.saturating_sub(1);
             }
         }
-    }
-}
-
-/// Adds a line for the form at work.
-fn append_line(
-    table: &mut Table,
-    bound: i128,
-    number: u32,
-    origin: Origin,
-) -> Result<(), OutOfMemory> {
-    let start = table.parts.len();
-    match table.parts.extend_from_slice(table.made.as_slice()) {
-        Ok(_) => {}
-        Err(_) => return Err(OutOfMemory),
-    }
-    let end = table.parts.len();
-    let line = table.lines.len();
-    append(
-        &mut table.lines,
-        Line {
-            start,
-            end,
-            bound,
-            number,
-            origin,
-            stands: true,
-        },
-    )?;
-    append(&mut table.standing, line)
-}
-
-fn look_at_length(table: &Table) -> Result<(), Stop> {
-    let length = table.order.len();
-    if length > MOST_ROWS {
-        Err(Stop::Forms(u32::try_from(length).unwrap_or(u32::MAX)))
-    } else {
-        Ok(())
     }
 }
 
