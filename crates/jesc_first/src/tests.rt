@@ -83,7 +83,7 @@ const FILES: [(&str, Want); 30] = [
 ];
 
 /// Texts of classes with one or two methods.
-const METHODS: [(&str, Want); 54] = [
+const METHODS: [(&str, Want); 55] = [
     (
         "class A {\n//@ requires y < 1;\nstatic void f(int x) { }\n}",
         Want::Token(23, 24),
@@ -111,6 +111,10 @@ const METHODS: [(&str, Want); 54] = [
     (
         "class A {\n//@ requires y < 1;\nstatic void f(int x int y) { }\n}",
         Want::Token(50, 53),
+    ),
+    (
+        "class A {\n//@ requires y < 1;\nstatic void f(int x,) { }\n}",
+        Want::Token(50, 51),
     ),
     (
         "class A {\n//@ requires \\result < 1;\nstatic int f(int x) { return x; }\n}",

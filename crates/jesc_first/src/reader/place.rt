@@ -30,14 +30,16 @@ fn parameters_of<'a>(alloc: Global, heading: Cursor<'a>) -> Result<Option<Names<
     if cursor.name().is_err() || cursor.expect(Lexical::Sign, false, b"(").is_err() {
         return Ok(None);
     }
-    while cursor.expect(Lexical::Word, false, b"int").is_ok() {
+    let mut more = !cursor.begins(Lexical::Sign, false, b")");
+    while more {
+        if cursor.expect(Lexical::Word, false, b"int").is_err() {
+            return Ok(None);
+        }
         let Ok(name) = cursor.name() else {
             return Ok(None);
         };
         names.add(name)?;
-        if cursor.expect(Lexical::Sign, false, b",").is_err() {
-            break;
-        }
+        more = cursor.expect(Lexical::Sign, false, b",").is_ok();
     }
     if cursor.expect(Lexical::Sign, false, b")").is_err() {
         return Ok(None);
