@@ -12,6 +12,7 @@ use Rattle.jesc_first.specs.declared.tree.Class.{Class}
 use Rattle.jesc_first.specs.declared.reader.Found.{Found}
 use Rattle.jesc_first.specs.declared.reader.Found.TheVariants.{Token, Character, End}
 use Rattle.jesc_first.specs.Accepted.{Accepted, duties, Safe}
+use Rattle.jesc_first.specs.Outside.{LiesWithin}
 use Rattle.jesc_engine.specs.declared.answer.Answer.TheVariants.{Proved}
 use Rattle.jesc_engine.specs.declared.answer.Judgement.{Judgement}
 use Rattle.jesc_engine.specs.declared.top.Status.{Status}
@@ -81,12 +82,6 @@ abbrev pub found_word : List ℕ → Found → List ℕ
 found_word bytes (Token from to) = slice_range bytes from to
 found_word bytes (Character at) = codes "character"
 found_word bytes End = codes "end of file"
-
--- a token has bytes, and lies within the file; a character lies within it
-abbrev pub LiesWithin : ℕ → Found → Type 0
-LiesWithin length (Token from to) = (from < to) × (to ≤ length)
-LiesWithin length (Character at) = at < length
-LiesWithin length End = Unit {0}
 
 abbrev pub usage_line : List ℕ
 usage_line = codes "jesc: usage: --esc FILE... | --check FILE... | --demo N\n"

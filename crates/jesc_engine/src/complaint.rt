@@ -3,7 +3,8 @@
 ghost use Rattle.std.specs.Prelude.{◌≡◌, ◌++◌, length, IfOk, OnOk};
 ghost use Rattle.jesc_io.specs.Contents.{Gains};
 ghost use Rattle.jesc_io.specs.Faults.{HasCause};
-ghost use Rattle.jesc_engine.specs.Ends.{usage_line, cannot_read_line, too_large_line, outside_line, found_at as offset_of, found_word as word_of, LiesWithin};
+ghost use Rattle.jesc_first.specs.Outside.{LiesWithin};
+ghost use Rattle.jesc_engine.specs.Ends.{usage_line, cannot_read_line, too_large_line, outside_line, found_at as offset_of, found_word as word_of};
 
 use crate::report::{Source, put_place};
 use jesc_first::Found;

@@ -17,15 +17,13 @@ ghost use Rattle.jesc_engine.specs.Findings.{AnswerAll};
 
 use crate::answer::Finding;
 use crate::ways::conditions::assume_all;
+use crate::ways::facts::LIMIT;
 use crate::ways::parameters::{parameter_facts, parameter_terms};
 use crate::ways::statements::find_in_body;
 pub use atom::Atom;
 use jesc_first::Method;
 use jesc_text::{List, OutOfMemory};
 use std::alloc::Global;
-
-/// The most parameters of a method.
-const MOST_PARAMETERS: usize = (1 << 31) - 1;
 
 /// A finding for each check of a method, in the order in which a call meets them.
 ///
@@ -35,7 +33,7 @@ pub(crate) fn find(alloc: Global, method: &Method) -> Result<List<Finding>, OutO
     ensures { IfOk result (λ findings. AnswerAll (obligations method.now) findings) }
 {
     let parameters = method.parameters.as_slice();
-    if parameters.len() > MOST_PARAMETERS {
+    if parameters.len() > LIMIT as usize {
         return Err(OutOfMemory);
     }
     let arguments = parameter_terms(alloc, parameters)?;

@@ -1,5 +1,5 @@
 -- What a function of the reader answers, beside the rule on lists of tokens that it reads.
-use Rattle.std.specs.Prelude.{◌≡◌, ℕ, Bool, true, false, List, [], ◌∷◌, ◌++◌, length, ◌<◌, ◌≤◌, Option, Some, None, Result, Ok, Err, ◌⊎◌}
+use Rattle.std.specs.Prelude.{◌≡◌, ℕ, Bool, true, false, List, [], ◌∷◌, ◌++◌, length, ◌<◌, Option, Some, None, Result, Ok, Err, ◌⊎◌}
 use Rattle.std.specs.Borrow.{Bor}
 use Rattle.jesc_first.specs.declared.reader.cursor.Stop.{Stop}
 use Rattle.jesc_first.specs.declared.reader.cursor.Stop.TheVariants.{Refused, Memory}
@@ -10,8 +10,6 @@ use Rattle.jesc_first.specs.declared.tree.Condition.{Condition}
 use Rattle.jesc_first.specs.declared.tree.Clause.{Clause}
 use Rattle.jesc_first.specs.declared.tree.Stmt.{Stmt}
 use Rattle.jesc_first.specs.declared.tree.Class.{Class}
-use Rattle.jesc_first.specs.declared.reader.Found.{Found}
-use Rattle.jesc_first.specs.declared.reader.Found.TheVariants.{Token as FoundToken, Character, End}
 use Rattle.jesc_first.specs.declared.reader.ReadError.{ReadError}
 use Rattle.jesc_first.specs.declared.reader.ReadError.TheVariants.{Outside, OutOfMemory}
 use Rattle.jesc_first.specs.Lexemes.{Lexeme, SpellsFile}
@@ -103,17 +101,7 @@ ReadsFile bytes (Ok class) = IsRead bytes class
 ReadsFile bytes (Err (Outside found)) = ((lexemes : List Lexeme) → SpellsFile bytes lexemes → ⊥) ⊎ IsNoClass bytes
 ReadsFile bytes (Err OutOfMemory) = Unit {0}
 
--- a place within a file of so many bytes
-abbrev pub LiesWithin : ℕ → Found → Type 0
-LiesWithin size (FoundToken from to) = (from < to) × (to ≤ size)
-LiesWithin size (Character at) = at < size
-LiesWithin size End = Unit {0}
-
-abbrev pub IsWithin : ℕ → Result Class ReadError → Type 0
-IsWithin size (Ok class) = Unit {0}
-IsWithin size (Err (Outside found)) = LiesWithin size found
-IsWithin size (Err OutOfMemory) = Unit {0}
-
+-- a stray byte, if there is one, within a file of so many bytes
 abbrev pub StraysWithin : ℕ → Option ℕ → Type 0
 StraysWithin size None = Unit {0}
 StraysWithin size (Some at) = at < size

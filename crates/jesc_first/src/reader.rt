@@ -2,8 +2,8 @@
 
 ghost use Rattle.std.specs.Prelude.{◌≡◌, ◌≤◌, ℕ, All, length, IfOk};
 ghost use Rattle.jesc_first.specs.Accepted.{Accepted};
-ghost use Rattle.jesc_first.specs.Outside.{IsOutside};
-ghost use Rattle.jesc_first.specs.Reads.{ReadsFile, LiesWithin, IsWithin, StraysWithin};
+ghost use Rattle.jesc_first.specs.Outside.{IsOutside, LiesWithin, IsWithin};
+ghost use Rattle.jesc_first.specs.Reads.{ReadsFile, StraysWithin};
 ghost use Rattle.jesc_first.specs.Scanning.{StandsWithin};
 
 mod body;

@@ -14,8 +14,8 @@ use jesc_text::{List, OutOfMemory};
 use std::alloc::Global;
 use std::marker::Model;
 
-/// The most rows that are ever gathered, and the most terms.
-const LIMIT: u32 = (1 << 31) - 1;
+/// The most rows that are ever gathered, and the most terms, of which each parameter has one.
+pub(crate) const LIMIT: u32 = (1 << 31) - 1;
 
 /// Proved where these steps refute the rows.
 fn refutation(rows: &[Row], steps: &[LinStep]) -> Answer

@@ -1,8 +1,9 @@
 use Rattle.std.proofs.Common.{length, refl, rules, sym, subst, inr}
 use Rattle.jesc_first.specs.declared.tree.Class.{Class}
 use Rattle.jesc_first.specs.Accepted.{Accepted}
+use Rattle.jesc_first.specs.Outside.{LiesWithin}
 use Rattle.jesc_engine.specs.declared.top.Status.TheVariants.{Refused}
-use Rattle.jesc_engine.specs.Ends.{Ends, IsOutside, LiesWithin, outside_line}
+use Rattle.jesc_engine.specs.Ends.{Ends, IsOutside, outside_line}
 use Rattle.jesc_engine.proofs.Endings.{complains}
 use Rattle.jesc_engine.proofs.top.check_source.Goals as goal
 
