@@ -1,7 +1,8 @@
 //! The top call: words in, a report out.
 //!
-//! `reader` makes the tree of a file, `ways` finds an answer for each check of a method, `report` writes the lines,
-//! and `top` puts them together.
+//! `words` tells the name of the file, of which `jesc_first` makes the tree. `ways` finds an answer for each check of a
+//! method, `findings` and `judge` tell what the answers say, `report` makes the lines, `writing` and `complaint` write
+//! them, and `top` puts all together.
 #![tactic(auto)]
 
 mod answer;
