@@ -9,8 +9,7 @@ use Rattle.jesc_engine.specs.declared.answer.Answer.{Answer}
 use Rattle.jesc_engine.specs.declared.answer.Answer.TheVariants.{Proved, Open, WideForms, WidePairs, WideNumber, Gap}
 use Rattle.jesc_engine.specs.declared.answer.Finding.{Finding}
 use Rattle.jesc_engine.specs.Ways.{Obligation, each_way}
-use Rattle.jesc_engine.specs.Findings.{HasSolution, Answers, AnswerAll}
-use Rattle.jesc_engine.specs.Walk.{Continues, Extends}
+use Rattle.jesc_engine.specs.Walk.{HasSolution, Answers, AnswerAll, Continues, Extends}
 
 any_left : {X : Type 0} (P : X → Type 0) (xs ys : List X) → Any P xs → Any P (xs ++ ys)
 any_left P xs ys (k, x, l, e, p) = (k, x, omega (arith, length-append xs ys), get_or_append_left xs ys x k l ∙ e, p)

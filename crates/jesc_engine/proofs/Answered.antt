@@ -9,7 +9,8 @@ use Rattle.jesc_first.specs.Machine.{CanFail}
 use Rattle.jesc_engine.specs.declared.answer.Answer.TheVariants.{Proved, Open}
 use Rattle.jesc_engine.specs.declared.answer.Finding.{Finding}
 use Rattle.jesc_engine.specs.Ways.{Obligation, obligations}
-use Rattle.jesc_engine.specs.Findings.{Answers, AnswerAll, AreProved, AreFindings}
+use Rattle.jesc_engine.specs.Findings.{AreProved, AreFindings}
+use Rattle.jesc_engine.specs.Walk.{Answers, AnswerAll}
 use Rattle.jesc_engine.proofs.Meeting.{Met, OneOf, Broken, all_from_met, one_from_any}
 use Rattle.jesc_engine.proofs.Starting.{can_fail, has_way}
 use Rattle.jesc_engine.proofs.Listing.{check_of, checks_listed}

@@ -8,8 +8,7 @@ use Rattle.jesc_engine.specs.declared.answer.Answer.{Answer}
 use Rattle.jesc_engine.specs.declared.answer.Answer.TheVariants.{Proved}
 use Rattle.jesc_engine.specs.declared.ways.atom.Atom.{Atom}
 use Rattle.jesc_engine.specs.Ways.{Facts, atom_in, sum_facts, sum_atom, sum_ways, concat, each_way, breaking, trouble_ways, break_ways, condition_facts, demand_facts}
-use Rattle.jesc_engine.specs.Findings.{Answers}
-use Rattle.jesc_engine.specs.Walk.{IsScope, IsSummed, IsGrown, Continues}
+use Rattle.jesc_engine.specs.Walk.{Answers, IsScope, IsSummed, IsGrown, Continues}
 use Rattle.jesc_engine.proofs.AnswerLists.{continues_on}
 use Rattle.jesc_engine.proofs.Sums.{scope_later}
 

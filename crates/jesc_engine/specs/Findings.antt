@@ -1,35 +1,10 @@
 -- What the findings on a method say.
-use Rattle.std.specs.Prelude.{◌≡◌, List, [], ◌∷◌, All, Any, map, ℕ, ℤ}
-use Rattle.jesc_linear.specs.declared.rows.Row.{Row}
-use Rattle.jesc_linear.specs.Rows.{MeetsAll, HaveNoSolution}
+use Rattle.std.specs.Prelude.{◌≡◌, List, All, map}
 use Rattle.jesc_first.specs.declared.tree.Method.{Method}
 use Rattle.jesc_first.specs.Machine.{CanFail, IsSafe}
 use Rattle.jesc_first.specs.Accepted.{checks_of}
-use Rattle.jesc_engine.specs.declared.answer.Answer.{Answer}
-use Rattle.jesc_engine.specs.declared.answer.Answer.TheVariants.{Proved, Open, WideForms, WidePairs, WideNumber, Gap}
+use Rattle.jesc_engine.specs.declared.answer.Answer.TheVariants.{Proved, Open}
 use Rattle.jesc_engine.specs.declared.answer.Finding.{Finding}
-use Rattle.jesc_engine.specs.Ways.{Obligation}
-
--- some whole numbers meet the rows
-abbrev pub HasSolution : List Row → Type 0
-HasSolution rows = (v : ℕ → ℤ) × MeetsAll v rows
-
--- Proved where no way has a solution, and Open only where one has.
-abbrev pub Answers : List (List Row) → Answer → Type 0
-Answers ways Proved = All HaveNoSolution ways
-Answers ways Open = Any HasSolution ways
-Answers ways (WideForms n) = Unit {0}
-Answers ways (WidePairs n) = Unit {0}
-Answers ways (WideNumber z) = Unit {0}
-Answers ways Gap = Unit {0}
-
--- a finding for each obligation, in order
-abbrev pub AnswerAll : List Obligation → List Finding → Type 0
-AnswerAll [] [] = Unit {0}
-AnswerAll [] (finding ∷ findings) = ⊥
-AnswerAll (obligation ∷ obligations) [] = ⊥
-AnswerAll (obligation ∷ obligations) (finding ∷ findings) =
-    (finding.check ≡ obligation.check) × Answers obligation.ways finding.answer × AnswerAll obligations findings
 
 abbrev pub AreProved : List Finding → Type 0
 AreProved findings = All (λ finding. finding.answer ≡ Proved) findings

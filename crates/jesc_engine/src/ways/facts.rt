@@ -1,9 +1,8 @@
 ghost use Rattle.std.specs.Prelude.{◌≡◌, ℕ, ◌+◌, ◌<◌, ◌≤◌, ◌^◌, pos, [], ◌∷◌, ◌++◌, length, IfOk, OnOk, OnErr};
 ghost use Rattle.jesc_linear.specs.Forms.{IsForm};
 ghost use Rattle.jesc_linear.specs.Evidence.{HasEvidence};
-ghost use Rattle.jesc_engine.specs.Findings.{Answers};
 ghost use Rattle.jesc_engine.specs.Ways.{with_rows, each_way, tied, operated, operation_ways, in_range, below_range, above_range};
-ghost use Rattle.jesc_engine.specs.Walk.{AreRows, IsBelow};
+ghost use Rattle.jesc_engine.specs.Walk.{Answers, AreRows, IsBelow};
 
 use crate::answer::Answer;
 use crate::ways::atom::Atom;
