@@ -1,5 +1,5 @@
 -- What the findings on a method say follows from their answers to its obligations.
-use Rattle.std.proofs.Common.{◌≡◌, ℕ, List, [], ◌∷◌, refl, sym, ◌∙◌, ap, subst, inl, inr, All, map, ℤ}
+use Rattle.std.proofs.Common.{◌≡◌, ℕ, suc, List, [], ◌∷◌, refl, sym, ◌∙◌, ap, subst, arith, inl, inr, All, Any, map, ℤ}
 use Rattle.std.proofs.lemmas.List.Elements.{All-nil, All-cons, All-head, All-tail}
 use Rattle.jesc_linear.specs.declared.rows.Row.{Row}
 use Rattle.jesc_linear.specs.Rows.{HaveNoSolution}
@@ -9,7 +9,7 @@ use Rattle.jesc_first.specs.Machine.{CanFail}
 use Rattle.jesc_engine.specs.declared.answer.Answer.TheVariants.{Proved, Open}
 use Rattle.jesc_engine.specs.declared.answer.Finding.{Finding}
 use Rattle.jesc_engine.specs.Ways.{Obligation, obligations}
-use Rattle.jesc_engine.specs.Findings.{AreProved, AreFindings}
+use Rattle.jesc_engine.specs.Findings.{Doubts, AreFindings}
 use Rattle.jesc_engine.specs.Walk.{Answers, AnswerAll}
 use Rattle.jesc_engine.proofs.Meeting.{Met, OneOf, Broken, all_from_met, one_from_any}
 use Rattle.jesc_engine.proofs.Starting.{can_fail, has_way}
@@ -44,13 +44,13 @@ no_way v (way ∷ rest) a o = elim o [
   | inr q ↦ no_way v rest (All-tail HaveNoSolution way rest a) q
 ]
 
--- where all are Proved, no numbers meet a way
-none_broken : (v : ℕ → ℤ) (those : List Obligation) (findings : List Finding) (failing : Check) → AnswerAll those findings → AreProved findings → Broken v those failing → ⊥
-none_broken v [] findings failing a p b = b
-none_broken v (obligation ∷ those) [] failing a p b = a
-none_broken v (obligation ∷ those) (finding ∷ findings) failing a p b = elim b [
-  | inl h ↦ no_way v obligation.ways (subst (Answers obligation.ways) (All-head (λ f. f.answer ≡ Proved) finding findings p) a.1) h.way
-  | inr q ↦ none_broken v those findings failing a.2 (All-tail (λ f. f.answer ≡ Proved) finding findings p) q
+-- where numbers meet a way of a check, a finding on it is not Proved
+doubted : (v : ℕ → ℤ) (those : List Obligation) (findings : List Finding) (failing : Check) → AnswerAll those findings → Broken v those failing → Any (Doubts failing) findings
+doubted v [] findings failing a b = absurd b
+doubted v (obligation ∷ those) [] failing a b = absurd a
+doubted v (obligation ∷ those) (finding ∷ findings) failing a b = elim b [
+  | inl h ↦ (0, finding, omega arith, refl, (a.0 ∙ h.same, λ proved. no_way v obligation.ways (subst (Answers obligation.ways) proved a.1) h.way))
+  | inr q ↦ let later = doubted v those findings failing a.2 q in (suc later.0, later.1, omega (arith, later.2), later.3, later.4)
 ]
 
 -- a finding for each obligation, with an answer that holds, tells what calls can fail
@@ -58,5 +58,5 @@ pub findings_are : (method : Method) (findings : List Finding) → AnswerAll (ob
 findings_are method findings a = record {
   checks = same_checks (obligations method) findings a ∙ checks_listed method;
   open_ones = open_ones_fail method (obligations method) findings a (can_fail method);
-  proved = λ p failing fails. let found = has_way method failing fails in none_broken found.0 (obligations method) findings failing a p found.1;
+  proved = λ failing fails. let found = has_way method failing fails in doubted found.0 (obligations method) findings failing a found.1;
 }

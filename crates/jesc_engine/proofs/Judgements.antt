@@ -1,5 +1,5 @@
 -- Judgements on the duties of a class: one more, what their being proved says of the class, and their verdict.
-use Rattle.std.proofs.Common.{◌≡◌, ◌≢◌, ℕ, ◌+◌, ◌<◌, Bool, true, false, ◌&&◌, List, [], ◌∷◌, ◌++◌, length, take, get_or, All, Any, refl, sym, ap, subst, ◌∙◌, suc, arith}
+use Rattle.std.proofs.Common.{◌≡◌, ◌≢◌, ℕ, zero, ◌+◌, ◌<◌, slice_index_or, Bool, true, false, ◌&&◌, List, [], ◌∷◌, ◌++◌, length, take, get_or, All, Any, refl, sym, ap, subst, ◌∙◌, suc, arith}
 use Rattle.std.specs.List.{list_all}
 use Rattle.std.proofs.lemmas.List.{take_more}
 use Rattle.std.proofs.lemmas.List.Elements.{All-nil, All-cons, All-head, All-tail}
@@ -7,8 +7,9 @@ use Rattle.jesc_first.specs.declared.tree.Method.{Method}
 use Rattle.jesc_first.specs.Machine.{IsSafe}
 use Rattle.jesc_engine.specs.declared.answer.Answer.{Answer}
 use Rattle.jesc_engine.specs.declared.answer.Answer.TheVariants.{Proved, Open, WideForms, WidePairs, WideNumber, Gap}
+use Rattle.jesc_engine.specs.declared.answer.Finding.{Finding}
 use Rattle.jesc_engine.specs.declared.answer.Judgement.{Judgement}
-use Rattle.jesc_engine.specs.Findings.{AreFindings, AreProved}
+use Rattle.jesc_engine.specs.Findings.{AreProved, Doubts, AreFindings}
 use Rattle.jesc_engine.specs.Report.{is_proved, is_verified, duty_text}
 use Rattle.jesc_engine.specs.Ends.{AreJudgements, AllProved, SomeNotProved}
 
@@ -33,13 +34,25 @@ judged_next class name first methods i method judgements now judgement within it
     let longer = subst (λ ms. AreJudgements class (first ∷ ms) (judgements ++ judgement ∷ [])) (sym taken) more in
     subst (λ js. AreJudgements class (first ∷ take (i + 1) methods) js) (sym gained) longer
 
+-- where each element has P, none has Q, if no element has both
+none_of : {X : Type 0} (P Q : X → Type 0) → ((x : X) → P x → Q x → ⊥) → (xs : List X) (k : ℕ) (x : X) → k < length xs → slice_index_or xs k x ≡ x → All P xs → Q x → ⊥
+none_of P Q apart [] k x within item each here = absurd (omega arith)
+none_of P Q apart (y ∷ ys) zero x within item each here = apart y (All-head P y ys each) (subst Q (sym item) here)
+none_of P Q apart (y ∷ ys) (suc k) x within item each here = none_of P Q apart ys k x (omega arith) item (All-tail P y ys each) here
+
+-- where each finding is Proved, no call fails a check
+safe_method : (method : Method) (findings : List Finding) → AreFindings method findings → AreProved findings → IsSafe method
+safe_method method findings found proved failing fails =
+    let some = found.proved failing fails in
+    none_of (λ finding. finding.answer ≡ Proved) (Doubts failing) (λ finding is doubted. doubted.1 is) findings some.0 some.1 some.2 some.3 proved some.4
+
 -- where each finding is proved, each duty is safe
 pub safe_duties : (class : List ℕ) (methods : List Method) (judgements : List Judgement)
     → AreJudgements class methods judgements → AllProved judgements → All IsSafe methods
 safe_duties class [] judgements judged proved = All-nil IsSafe
 safe_duties class (m ∷ ms) [] judged proved = absurd judged
 safe_duties class (m ∷ ms) (j ∷ js) judged proved =
-    All-cons IsSafe m ms (judged.1.proved (All-head (λ judgement. AreProved judgement.findings) j js proved)) (safe_duties class ms js judged.2 (All-tail (λ judgement. AreProved judgement.findings) j js proved))
+    All-cons IsSafe m ms (safe_method m j.findings judged.1 (All-head (λ judgement. AreProved judgement.findings) j js proved)) (safe_duties class ms js judged.2 (All-tail (λ judgement. AreProved judgement.findings) j js proved))
 
 is_proved-true : (answer : Answer) → is_proved answer ≡ true → answer ≡ Proved
 is_proved-true Proved passed = refl

@@ -9,7 +9,8 @@ use std::alloc::Global;
 
 /// The findings on a method: an answer for each of its checks, in order.
 ///
-/// An Open check has a call that starts and fails it, and where all checks are Proved no call fails any.
+/// An Open check has a call that starts and fails it, and each check that some call fails has a finding that is not
+/// Proved.
 #[tactic(auto, using(crate::proofs::Answered::findings_are))]
 pub(crate) fn findings(alloc: Global, method: &Method) -> Result<List<Finding>, OutOfMemory>
     ensures { IfOk result (λ found. AreFindings method.now found) }
