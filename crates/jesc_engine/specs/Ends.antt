@@ -1,12 +1,14 @@
 -- What the top call has done when it ends, by its status.
 --
--- `told` is what the files tell of their contents. `out` and `err` are what the two outputs tell that they have taken,
--- before the call and after it. Where an object tells nothing, the clauses on it say nothing.
+-- `told` is what the files tell of their contents before the call; `reads` and `reads'` are their counts of failed reads
+-- before it and after it. `out` and `err` are what the two outputs tell that they have taken before it, `out'` and
+-- `err'` after it. Where an object tells nothing, the clauses on it say nothing.
 use Rattle.std.specs.Prelude.{◌≡◌, ◌≢◌, ◌⊎◌, ℕ, ◌<◌, ◌≤◌, false, nat_eq, List, [], ◌∷◌, ◌++◌, length, take, slice_range, codes, Option, option_map, IfSome, All, Any, String}
 use Rattle.std.specs.List.{starts_with}
 use Rattle.std.specs.String.{string_bytes}
 use Rattle.std.specs.declared.alloc.Global.{Global}
 use Rattle.jesc_io.specs.Contents.{Store, bytes_at}
+use Rattle.jesc_io.specs.Faults.{Rose}
 use Rattle.jesc_first.specs.declared.tree.Method.{Method}
 use Rattle.jesc_first.specs.declared.tree.Class.{Class}
 use Rattle.jesc_first.specs.declared.reader.Found.{Found}
@@ -109,16 +111,16 @@ pub record IsOutside (told : Option Store) (name line : List ℕ) : Type 0 where
 abbrev pub IsRefusal : Option Store → List ℕ → List ℕ → Type 0
 IsRefusal told name line = (IsTooLarge told name × (line ≡ too_large_line name)) ⊎ IsOutside told name line
 
--- the one line of `err` for a status that has one
-abbrev pub IsComplaint : Option Store → List ℕ → Status → List ℕ → Type 0
-IsComplaint told name Usage line = line ≡ usage_line
-IsComplaint told name ReadFault line = line ≡ cannot_read_line name
-IsComplaint told name Refused line = IsRefusal told name line
-IsComplaint told name Verified line = ⊥
-IsComplaint told name Warned line = ⊥
-IsComplaint told name WriteFault line = ⊥
-IsComplaint told name OutOfMemory line = ⊥
-IsComplaint told name Partial line = ⊥
+-- the one line of `err` for a status that has one, with its cause: a read failed, or the file is refused
+abbrev pub IsComplaint : Option Store → List ℕ → ℕ → ℕ → Status → List ℕ → Type 0
+IsComplaint told name reads reads' ReadFault line = Rose reads reads' × (line ≡ cannot_read_line name)
+IsComplaint told name reads reads' Refused line = IsRefusal told name line
+IsComplaint told name reads reads' Usage line = ⊥
+IsComplaint told name reads reads' Verified line = ⊥
+IsComplaint told name reads reads' Warned line = ⊥
+IsComplaint told name reads reads' WriteFault line = ⊥
+IsComplaint told name reads reads' OutOfMemory line = ⊥
+IsComplaint told name reads reads' Partial line = ⊥
 
 -- `out` has gained exactly the report on these judgements, and `err` nothing.
 pub record Reports (told : Option Store) (name : List ℕ) (judgements : List Judgement) (out out' err err' : Option (List ℕ)) : Type 0 where
@@ -128,9 +130,9 @@ pub record Reports (told : Option Store) (name : List ℕ) (judgements : List Ju
   pub silent : err' ≡ err
 
 -- `err` has gained exactly the line of this status, and `out` nothing.
-pub record Complains (told : Option Store) (name : List ℕ) (status : Status) (out out' err err' : Option (List ℕ)) : Type 0 where
+pub record Complains (told : Option Store) (name : List ℕ) (reads reads' : ℕ) (status : Status) (out out' err err' : Option (List ℕ)) : Type 0 where
   pub line : List ℕ
-  pub complaint : IsComplaint told name status line
+  pub complaint : IsComplaint told name reads reads' status line
   pub gained : GainsAll err err' line
   pub silent : out' ≡ out
 
@@ -142,29 +144,46 @@ pub record ReportsInPart (told : Option Store) (name : List ℕ) (out out' err e
   pub gained : GainsPrefix out out' (report name bytes judgements)
   pub silent : err' ≡ err
 
--- `err` has gained a prefix of a line that some status has, and `out` nothing.
-pub record ComplainsInPart (told : Option Store) (name : List ℕ) (out out' err err' : Option (List ℕ)) : Type 0 where
+-- `err` has gained a prefix of a line that some status has, whose cause is there, and `out` nothing.
+pub record ComplainsInPart (told : Option Store) (name : List ℕ) (reads reads' : ℕ) (out out' err err' : Option (List ℕ)) : Type 0 where
   pub status : Status
   pub line : List ℕ
-  pub complaint : IsComplaint told name status line
+  pub complaint : IsComplaint told name reads reads' status line
   pub gained : GainsPrefix err err' line
   pub silent : out' ≡ out
 
 -- The call stopped: with nothing written, in the midst of a report, or in the midst of a line of `err`.
-abbrev pub Stops : Option Store → List ℕ → Option (List ℕ) → Option (List ℕ) → Option (List ℕ) → Option (List ℕ) → Type 0
-Stops told name out out' err err' =
-    ((out' ≡ out) × (err' ≡ err)) ⊎ ReportsInPart told name out out' err err' ⊎ ComplainsInPart told name out out' err err'
+abbrev pub Stops : Option Store → List ℕ → ℕ → ℕ → Option (List ℕ) → Option (List ℕ) → Option (List ℕ) → Option (List ℕ) → Type 0
+Stops told name reads reads' out out' err err' =
+    ((out' ≡ out) × (err' ≡ err)) ⊎ ReportsInPart told name out out' err err' ⊎ ComplainsInPart told name reads reads' out out' err err'
 
--- how the call ends, by its status
-abbrev pub Ends : Option Store → List ℕ → Option (List ℕ) → Option (List ℕ) → Option (List ℕ) → Option (List ℕ) → Status → Type 0
-Ends told name out out' err err' Verified = (judgements : List Judgement) × Reports told name judgements out out' err err' × AllProved judgements
-Ends told name out out' err err' Warned = (judgements : List Judgement) × Reports told name judgements out out' err err' × SomeNotProved judgements
-Ends told name out out' err err' Refused = Complains told name Refused out out' err err'
-Ends told name out out' err err' Usage = Complains told name Usage out out' err err'
-Ends told name out out' err err' ReadFault = Complains told name ReadFault out out' err err'
-Ends told name out out' err err' WriteFault = Stops told name out out' err err'
-Ends told name out out' err err' OutOfMemory = Stops told name out out' err err'
-Ends told name out out' err err' Partial = ⊥
+-- how the check of the file of this name ends, by its status
+abbrev pub EndsOn : Option Store → List ℕ → ℕ → ℕ → Option (List ℕ) → Option (List ℕ) → Option (List ℕ) → Option (List ℕ) → Status → Type 0
+EndsOn told name reads reads' out out' err err' Verified = (judgements : List Judgement) × Reports told name judgements out out' err err' × AllProved judgements
+EndsOn told name reads reads' out out' err err' Warned = (judgements : List Judgement) × Reports told name judgements out out' err err' × SomeNotProved judgements
+EndsOn told name reads reads' out out' err err' Refused = Complains told name reads reads' Refused out out' err err'
+EndsOn told name reads reads' out out' err err' ReadFault = Complains told name reads reads' ReadFault out out' err err'
+EndsOn told name reads reads' out out' err err' WriteFault = Stops told name reads reads' out out' err err'
+EndsOn told name reads reads' out out' err err' OutOfMemory = Stops told name reads reads' out out' err err'
+EndsOn told name reads reads' out out' err err' Usage = ⊥
+EndsOn told name reads reads' out out' err err' Partial = ⊥
+
+-- how a call ends that has only the usage line to write, by its status
+abbrev pub EndsInUsage : Option (List ℕ) → Option (List ℕ) → Option (List ℕ) → Option (List ℕ) → Status → Type 0
+EndsInUsage out out' err err' Usage = (out' ≡ out) × GainsAll err err' usage_line
+EndsInUsage out out' err err' WriteFault = (out' ≡ out) × GainsPrefix err err' usage_line
+EndsInUsage out out' err err' OutOfMemory = (out' ≡ out) × GainsPrefix err err' usage_line
+EndsInUsage out out' err err' Verified = ⊥
+EndsInUsage out out' err err' Warned = ⊥
+EndsInUsage out out' err err' Refused = ⊥
+EndsInUsage out out' err err' ReadFault = ⊥
+EndsInUsage out out' err err' Partial = ⊥
+
+-- How the call ends: its words are the command, and it ends on the file that they name; or they are not, and it ends in the usage line.
+abbrev pub Ends : List (String Global) → Option Store → ℕ → ℕ → Option (List ℕ) → Option (List ℕ) → Option (List ℕ) → Option (List ℕ) → Status → Type 0
+Ends words told reads reads' out out' err err' status =
+    (IsCommand words × EndsOn told (name_of words) reads reads' out out' err err' status)
+    ⊎ (¬ (IsCommand words) × EndsInUsage out out' err err' status)
 
 -- The file of this name holds a class of which no call fails a check.
 pub record HoldsSafeClass (told : Option Store) (name : List ℕ) : Type 0 where

@@ -5,7 +5,7 @@ ghost use Rattle.std.specs.List.{list_all};
 ghost use Rattle.jesc_io.specs.Faults.{Rose, HasCause};
 ghost use Rattle.jesc_io.specs.Contents.{Store, SameContents};
 ghost use Rattle.jesc_first.specs.Accepted.{Accepted};
-ghost use Rattle.jesc_engine.specs.Ends.{IsCommand, name_of, IsContent, IsTooLarge, Ends, HoldsSafeClass, HoldsNoClass};
+ghost use Rattle.jesc_engine.specs.Ends.{IsCommand, name_of, IsContent, IsTooLarge, EndsOn, Ends, HoldsSafeClass, HoldsNoClass};
 ghost use Rattle.jesc_engine.specs.Report.{is_verified as verified};
 ghost use Rattle.jesc_engine.specs.After.{status_after, verdict_of};
 
@@ -75,7 +75,7 @@ fn verdict(judgements: &[Judgement]) -> Status
 /// Judges a class and reports on it.
 fn check_class<O: Sink>(alloc: Global, source: &Source, class: &Class, out: &mut O) -> Status
     requires { Accepted source.now.bytes class.now }
-    ensures ends { (told : Option Store) (err : Option (List ℕ)) → IsContent told source.now.name source.now.bytes → Ends told source.now.name (O.taken out.old) (O.taken out.new) err err result }
+    ensures ends { (told : Option Store) (reads reads' : ℕ) (err : Option (List ℕ)) → IsContent told source.now.name source.now.bytes → EndsOn told source.now.name reads reads' (O.taken out.old) (O.taken out.new) err err result }
     ensures usage { result ≢ Status.Usage }
     ensures read_fault { result ≢ Status.ReadFault }
     ensures write_fault { result ≡ Status.WriteFault → Rose (O.faults out.old) (O.faults out.new) }
@@ -96,7 +96,7 @@ fn check_source<O: Sink, E: Sink>(
     out: &mut O,
     err: &mut E,
 ) -> Status
-    ensures ends { (told : Option Store) → IsContent told source.now.name source.now.bytes → Ends told source.now.name (O.taken out.old) (O.taken out.new) (E.taken err.old) (E.taken err.new) result }
+    ensures ends { (told : Option Store) (reads reads' : ℕ) → IsContent told source.now.name source.now.bytes → EndsOn told source.now.name reads reads' (O.taken out.old) (O.taken out.new) (E.taken err.old) (E.taken err.new) result }
     ensures usage { result ≢ Status.Usage }
     ensures read_fault { result ≢ Status.ReadFault }
     ensures write_fault { result ≡ Status.WriteFault → Rose (O.faults out.old) (O.faults out.new) ⊎ Rose (E.faults err.old) (E.faults err.new) }
@@ -119,7 +119,7 @@ fn check_bytes<O: Sink, E: Sink>(
     err: &mut E,
 ) -> Status
     requires { length bytes ≤ 1048576 }
-    ensures ends { (told : Option Store) → IsContent told name.now bytes → Ends told name.now (O.taken out.old) (O.taken out.new) (E.taken err.old) (E.taken err.new) result }
+    ensures ends { (told : Option Store) (reads reads' : ℕ) → IsContent told name.now bytes → EndsOn told name.now reads reads' (O.taken out.old) (O.taken out.new) (E.taken err.old) (E.taken err.new) result }
     ensures usage { result ≢ Status.Usage }
     ensures read_fault { result ≢ Status.ReadFault }
     ensures write_fault { result ≡ Status.WriteFault → Rose (O.faults out.old) (O.faults out.new) ⊎ Rose (E.faults err.old) (E.faults err.new) }
@@ -138,7 +138,7 @@ fn check_file<F: Files, O: Sink, E: Sink>(
     out: &mut O,
     err: &mut E,
 ) -> Status
-    ensures ends { Ends (F.told files.old) name.now (O.taken out.old) (O.taken out.new) (E.taken err.old) (E.taken err.new) result }
+    ensures ends { EndsOn (F.told files.old) name.now (F.read_faults files.old) (F.read_faults files.new) (O.taken out.old) (O.taken out.new) (E.taken err.old) (E.taken err.new) result }
     ensures usage { result ≢ Status.Usage }
     ensures read_fault { result ≡ Status.ReadFault → Rose (F.read_faults files.old) (F.read_faults files.new) }
     ensures write_fault { result ≡ Status.WriteFault → Rose (O.faults out.old) (O.faults out.new) ⊎ Rose (E.faults err.old) (E.faults err.new) }
@@ -157,7 +157,8 @@ fn check_file<F: Files, O: Sink, E: Sink>(
 ///
 /// `Verified` says that no call of any method of the class fails a check, whatever its arguments and its steps.
 /// `Warned` says that some check isn't proved; where its line ends in `open`, some call fails it. `Refused`, `Usage`
-/// and `ReadFault` come with one line of `err`. After `WriteFault` and `OutOfMemory` nothing more was written.
+/// and `ReadFault` come with one line of `err`. `WriteFault` and `OutOfMemory` leave a prefix of a report or of such a
+/// line, whose cause is there, or nothing.
 pub fn run<F: Files, O: Sink, E: Sink>(
     alloc: Global,
     words: &[String],
@@ -166,7 +167,7 @@ pub fn run<F: Files, O: Sink, E: Sink>(
     err: &mut E,
 ) -> Status
     // what was written, and why this status came
-    ensures ends { Ends (F.told files.old) (name_of words.now) (O.taken out.old) (O.taken out.new) (E.taken err.old) (E.taken err.new) result }
+    ensures ends { Ends words.now (F.told files.old) (F.read_faults files.old) (F.read_faults files.new) (O.taken out.old) (O.taken out.new) (E.taken err.old) (E.taken err.new) result }
     // verified: no call fails a check
     ensures safe { result ≡ Status.Verified → HoldsSafeClass (F.told files.old) (name_of words.now) }
     ensures refused { result ≡ Status.Refused → IsTooLarge (F.told files.old) (name_of words.now) ⊎ HoldsNoClass (F.told files.old) (name_of words.now) }

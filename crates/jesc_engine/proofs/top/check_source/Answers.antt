@@ -3,15 +3,15 @@ use Rattle.jesc_first.specs.declared.tree.Class.{Class}
 use Rattle.jesc_first.specs.Accepted.{Accepted}
 use Rattle.jesc_first.specs.Outside.{LiesWithin}
 use Rattle.jesc_engine.specs.declared.top.Status.TheVariants.{Refused}
-use Rattle.jesc_engine.specs.Ends.{Ends, IsOutside, outside_line}
+use Rattle.jesc_engine.specs.Ends.{EndsOn, IsOutside, outside_line}
 use Rattle.jesc_engine.proofs.Endings.{complains}
 use Rattle.jesc_engine.proofs.top.check_source.Goals as goal
 
 pub returns-in-Ok-clause-ends : goal.returns-in-Ok-clause-ends
-returns-in-Ok-clause-ends g c = λ told content. c.check_class.ensures.ends told (g.E.Sink.taken c.args.err.now) content
+returns-in-Ok-clause-ends g c = λ told reads reads' content. c.check_class.ensures.ends told reads reads' (g.E.Sink.taken c.args.err.now) content
 
 pub returns-in-Err-Outside-clause-ends : goal.returns-in-Err-Outside-clause-ends
-returns-in-Err-Outside-clause-ends g c = λ told content.
+returns-in-Err-Outside-clause-ends g c = λ told reads reads' content.
     let source = c.args.source.now in
     let found = c.in-Err-Outside.found in
     let out = g.O.Sink.taken c.args.out.now in
@@ -22,5 +22,5 @@ returns-in-Err-Outside-clause-ends g c = λ told content.
     let within : LiesWithin (length source.bytes) found = search rules in
     let outside : IsOutside told source.name (outside_line source.name source.bytes found) =
     record { bytes = source.bytes; content = content; none = none; found = found; within = within; text = refl } in
-    subst (λ s. Ends told source.name out out before now s) (sym c.ended.ensures)
-    (complains told source.name out before now Refused (outside_line source.name source.bytes found) c.say_outside.result (inr outside) c.say_outside.ensures.gains)
+    subst (λ s. EndsOn told source.name reads reads' out out before now s) (sym c.ended.ensures)
+    (complains told source.name reads reads' out before now Refused (outside_line source.name source.bytes found) c.say_outside.result (inr outside) c.say_outside.ensures.gains)
