@@ -1,3 +1,6 @@
+mod Bytes
+mod Steps
+mod Scans
 mod Shown
 mod Equal
 mod Loops
@@ -16,14 +19,3 @@ mod CompleteHeadings
 mod CompleteBodies
 mod CompleteClass
 mod Whole
-mod Spanned
-mod Headings
-mod Foreign
-mod Places
-mod RunBase
-mod RunSums
-mod RunClauses
-mod RunHeadings
-mod RunBodies
-mod RunClasses
-mod Strays

@@ -1,11 +1,9 @@
+pub mod Lexemes
 pub mod Spelling
 pub mod Names
 pub mod Machine
 pub mod Accepted
-pub mod Seen
+pub mod Scanning
 pub mod Reads
 pub mod Parsing
-pub mod Recognizing
-pub mod Recognized
-pub mod Fronts
 pub mod Outside

@@ -1,5 +1,0 @@
-use Rattle.jesc_java_parser.proofs.LineStarts.{Finds}
-use Rattle.jesc_java_parser.proofs.lines.lines_of.Given as goal
-
-abbrev pub invariant-loop-i : goal.invariant-loop-i
-invariant-loop-i l = Finds l.text l.i l.lines

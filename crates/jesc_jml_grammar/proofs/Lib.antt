@@ -1,4 +1,0 @@
-pub mod Turns
-pub mod ListTurns
-pub mod StoreTurns
-pub mod Room
