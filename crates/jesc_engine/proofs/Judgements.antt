@@ -1,9 +1,11 @@
--- Judgements on the duties of a class: one more, what their being proved says of the class, and their verdict.
-use Rattle.std.proofs.Common.{◌≡◌, ◌≢◌, ℕ, zero, ◌+◌, ◌<◌, slice_index_or, Bool, true, false, ◌&&◌, List, [], ◌∷◌, ◌++◌, length, take, get_or, All, Any, refl, sym, ap, subst, ◌∙◌, suc, arith}
+-- Judgements on duties: one more, what their being proved says of the classes, and their verdict.
+use Rattle.std.proofs.Common.{◌≡◌, ◌≢◌, ℕ, zero, ◌<◌, slice_index_or, Bool, true, false, ◌&&◌, List, [], ◌∷◌, ◌++◌, length, map, All, Any, refl, sym, ap, subst, suc, arith}
 use Rattle.std.specs.List.{list_all}
-use Rattle.std.proofs.lemmas.List.{take_more}
-use Rattle.std.proofs.lemmas.List.Elements.{All-nil, All-cons, All-head, All-tail}
+use Rattle.std.proofs.lemmas.List.{take_at, drop_at}
+use Rattle.std.proofs.lemmas.List.Elements.{All-nil, All-cons, All-head, All-tail, All-take, All-drop}
 use Rattle.jesc_first.specs.declared.tree.Method.{Method}
+use Rattle.jesc_first.specs.declared.tree.Class.{Class}
+use Rattle.jesc_first.specs.Accepted.{duties, Safe}
 use Rattle.jesc_first.specs.Machine.{IsSafe}
 use Rattle.jesc_engine.specs.declared.answer.Answer.{Answer}
 use Rattle.jesc_engine.specs.declared.answer.Answer.TheVariants.{Proved, Open, WideForms, WidePairs, WideNumber, Gap}
@@ -11,28 +13,23 @@ use Rattle.jesc_engine.specs.declared.answer.Finding.{Finding}
 use Rattle.jesc_engine.specs.declared.answer.Judgement.{Judgement}
 use Rattle.jesc_engine.specs.Findings.{AreProved, Doubts, AreFindings}
 use Rattle.jesc_engine.specs.Report.{is_proved, is_verified, duty_text}
-use Rattle.jesc_engine.specs.Ends.{AreJudgements, AllProved, SomeNotProved}
+use Rattle.jesc_engine.specs.Judged.{Duty, duty_of, class_duties, all_duties, AreJudgements, AllProved, SomeNotProved}
 
-judged_more : (class : List ℕ) (methods : List Method) (judgements : List Judgement) (method : Method) (judgement : Judgement)
-    → AreJudgements class methods judgements → judgement.duty ≡ duty_text class method → AreFindings method judgement.findings
-    → AreJudgements class (methods ++ method ∷ []) (judgements ++ judgement ∷ [])
-judged_more class [] [] method judgement before duty found = (duty, found, tt)
-judged_more class [] (j ∷ js) method judgement before duty found = absurd before
-judged_more class (m ∷ ms) [] method judgement before duty found = absurd before
-judged_more class (m ∷ ms) (j ∷ js) method judgement before duty found =
-    (before.0, before.1, judged_more class ms js method judgement before.2 duty found)
+-- one more judgement
+pub judged_more : (duties : List Duty) (judgements : List Judgement) (duty : Duty) (judgement : Judgement)
+    → AreJudgements duties judgements → judgement.duty ≡ duty_text duty.class duty.method → AreFindings duty.method judgement.findings
+    → AreJudgements (duties ++ duty ∷ []) (judgements ++ judgement ∷ [])
+judged_more [] [] duty judgement before named found = (named, found, tt)
+judged_more [] (j ∷ js) duty judgement before named found = absurd before
+judged_more (d ∷ ds) [] duty judgement before named found = absurd before
+judged_more (d ∷ ds) (j ∷ js) duty judgement before named found = (before.0, before.1, judged_more ds js duty judgement before.2 named found)
 
--- the same for the next of a list of methods, after a first one
-pub judged_next : (class name : List ℕ) (first : Method) (methods : List Method) (i : ℕ) (method : Method) (judgements now : List Judgement) (judgement : Judgement)
-    → i < length methods → method ≡ get_or methods i method → name ≡ class → AreJudgements class (first ∷ take i methods) judgements
-    → judgement.duty ≡ duty_text name method → AreFindings method judgement.findings → now ≡ judgements ++ judgement ∷ []
-    → AreJudgements class (first ∷ take (i + 1) methods) now
-judged_next class name first methods i method judgements now judgement within item named before duty found gained =
-    let renamed : judgement.duty ≡ duty_text class method = duty ∙ ap (λ n. duty_text n method) named in
-    let more = judged_more class (first ∷ take i methods) judgements method judgement before renamed found in
-    let taken : take (i + 1) methods ≡ take i methods ++ method ∷ [] = take_more methods i method within ∙ ap (λ m. take i methods ++ m ∷ []) (sym item) in
-    let longer = subst (λ ms. AreJudgements class (first ∷ ms) (judgements ++ judgement ∷ [])) (sym taken) more in
-    subst (λ js. AreJudgements class (first ∷ take (i + 1) methods) js) (sym gained) longer
+-- there are as many judgements as duties
+pub as_many : (duties : List Duty) (judgements : List Judgement) → AreJudgements duties judgements → length judgements ≡ length duties
+as_many [] [] judged = refl
+as_many [] (j ∷ js) judged = absurd judged
+as_many (d ∷ ds) [] judged = absurd judged
+as_many (d ∷ ds) (j ∷ js) judged = ap suc (as_many ds js judged.2)
 
 -- where each element has P, none has Q, if no element has both
 none_of : {X : Type 0} (P Q : X → Type 0) → ((x : X) → P x → Q x → ⊥) → (xs : List X) (k : ℕ) (x : X) → k < length xs → slice_index_or xs k x ≡ x → All P xs → Q x → ⊥
@@ -47,12 +44,33 @@ safe_method method findings found proved failing fails =
     none_of (λ finding. finding.answer ≡ Proved) (Doubts failing) (λ finding is doubted. doubted.1 is) findings some.0 some.1 some.2 some.3 proved some.4
 
 -- where each finding is proved, each duty is safe
-pub safe_duties : (class : List ℕ) (methods : List Method) (judgements : List Judgement)
-    → AreJudgements class methods judgements → AllProved judgements → All IsSafe methods
-safe_duties class [] judgements judged proved = All-nil IsSafe
-safe_duties class (m ∷ ms) [] judged proved = absurd judged
-safe_duties class (m ∷ ms) (j ∷ js) judged proved =
-    All-cons IsSafe m ms (safe_method m j.findings judged.1 (All-head (λ judgement. AreProved judgement.findings) j js proved)) (safe_duties class ms js judged.2 (All-tail (λ judgement. AreProved judgement.findings) j js proved))
+safe_duties : (duties : List Duty) (judgements : List Judgement) → AreJudgements duties judgements → AllProved judgements → All (λ duty. IsSafe duty.method) duties
+safe_duties [] judgements judged proved = All-nil (λ duty. IsSafe duty.method)
+safe_duties (d ∷ ds) [] judged proved = absurd judged
+safe_duties (d ∷ ds) (j ∷ js) judged proved =
+    All-cons (λ duty. IsSafe duty.method) d ds (safe_method d.method j.findings judged.1 (All-head (λ judgement. AreProved judgement.findings) j js proved))
+    (safe_duties ds js judged.2 (All-tail (λ judgement. AreProved judgement.findings) j js proved))
+
+pub all_left : {X : Type 0} (P : X → Type 0) (xs ys : List X) → All P (xs ++ ys) → All P xs
+all_left P xs ys each = subst (All P) (take_at xs ys (length xs) refl) (All-take P (length xs) (xs ++ ys) each)
+
+pub all_right : {X : Type 0} (P : X → Type 0) (xs ys : List X) → All P (xs ++ ys) → All P ys
+all_right P xs ys each = subst (All P) (drop_at xs ys (length xs) refl) (All-drop P (length xs) (xs ++ ys) each)
+
+all_of_map : {X Y : Type 0} (P : Y → Type 0) (f : X → Y) (xs : List X) → All P (map f xs) → All (λ x. P (f x)) xs
+all_of_map P f [] each = All-nil (λ x. P (f x))
+all_of_map P f (x ∷ xs) each = All-cons (λ x. P (f x)) x xs (All-head P (f x) (map f xs) each) (all_of_map P f xs (All-tail P (f x) (map f xs) each))
+
+safe_each : (classes : List Class) → All (λ duty. IsSafe duty.method) (all_duties classes) → All Safe classes
+safe_each [] each = All-nil Safe
+safe_each (class ∷ classes) each =
+    All-cons Safe class classes
+    (all_of_map (λ duty. IsSafe duty.method) (duty_of class.name) (duties class) (all_left (λ duty. IsSafe duty.method) (class_duties class) (all_duties classes) each))
+    (safe_each classes (all_right (λ duty. IsSafe duty.method) (class_duties class) (all_duties classes) each))
+
+-- where each finding is proved, each class is safe
+pub safe_classes : (classes : List Class) (judgements : List Judgement) → AreJudgements (all_duties classes) judgements → AllProved judgements → All Safe classes
+safe_classes classes judgements judged proved = safe_each classes (safe_duties (all_duties classes) judgements judged proved)
 
 is_proved-true : (answer : Answer) → is_proved answer ≡ true → answer ≡ Proved
 is_proved-true Proved passed = refl

@@ -23,5 +23,13 @@ pub mod Method
 pub mod LineStarts
 pub mod Pieces
 pub mod Gaining
-pub mod Endings
 pub mod Judgements
+pub mod Programs
+pub mod Endings
+pub mod Counts
+pub mod Bounds
+pub mod Readings
+pub mod ClassLists
+pub mod TokenSpans
+pub mod SourceLists
+pub mod CommandWords

@@ -3,6 +3,13 @@ pub mod Ways
 pub mod Findings
 pub mod Walk
 pub mod Report
+pub mod Command
+pub mod Sources
+pub mod Refusals
+pub mod Judged
+pub mod Spanned
 pub mod Starts
 pub mod After
 pub mod Ends
+pub mod Causes
+pub mod Files

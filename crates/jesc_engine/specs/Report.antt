@@ -79,9 +79,21 @@ last_line judgements =
     codes "methods " ++ decimal (length judgements) ++ codes ", verified " ++ decimal (count_verified judgements)
     ++ codes ", warned " ++ decimal (count_warned judgements) ++ codes ", skipped 0\n"
 
--- the whole report on a file: the lines of each duty in order, and the last line
-abbrev pub report : List ℕ → List ℕ → List Judgement → List ℕ
-report name bytes judgements = flat_map (duty_lines name bytes) judgements ++ last_line judgements
+-- What is reported of a file: its name, its bytes, and the judgements on the duties of its classes.
+pub record FileReport : Type 0 where
+  pub name : List ℕ
+  pub bytes : List ℕ
+  pub judgements : List Judgement
+
+abbrev pub file_lines : FileReport → List ℕ
+file_lines file = flat_map (duty_lines file.name file.bytes) file.judgements
+
+abbrev pub all_judgements : List FileReport → List Judgement
+all_judgements files = flat_map (λ file. file.judgements) files
+
+-- the whole report: the lines of each duty in order, and the last line
+abbrev pub report : List FileReport → List ℕ
+report files = flat_map file_lines files ++ last_line (all_judgements files)
 
 -- CLASS.METHOD/PARAMETERS
 abbrev pub duty_text : List ℕ → Method → List ℕ

@@ -1,15 +1,19 @@
 //! The top call: words in, a report out.
 //!
-//! `words` tells the name of the file, of which `jesc_first` makes the tree. `ways` finds an answer for each check of a
-//! method, `findings` and `judge` tell what the answers say, `report` makes the lines, `writing` and `complaint` write
-//! them, and `top` puts all together.
+//! `words` tells the names of the files, `sources` reads them, and `classes` has `jesc_first` make their classes; `stop`
+//! is what may stop this. `ways` finds an answer for each check of a method, `findings` and `judge` tell what the answers
+//! say, `report` makes the lines, `writing` and `complaint` write them, and `top` puts all together.
 #![tactic(auto)]
 
 mod answer;
+mod classes;
 mod complaint;
+mod file;
 mod findings;
 mod judge;
 mod report;
+mod sources;
+mod stop;
 mod top;
 mod ways;
 mod words;

@@ -2,8 +2,8 @@
 use Rattle.std.proofs.Common.{◌≡◌, ℕ, ◌≤◌, Bool, true, false, List, [], ◌∷◌, ◌++◌, length, nat_eq, refl, sym, subst, arith, All, Option, Some, None, IfSome, codes}
 use Rattle.std.proofs.lemmas.Bool.Decides.{nat_tests}
 use Rattle.std.proofs.lemmas.List.Elements.{All-head}
-use Rattle.jesc_first.specs.declared.lexeme.Lexical.TheVariants.{Word, Sign}
-use Rattle.jesc_first.specs.declared.reader.token.Token.{Token}
+use Rattle.jesc_lexer.specs.declared.token.TokenKind.TheVariants.{Word, Sign}
+use Rattle.jesc_ast.specs.Lexemes.{Lexeme}
 use Rattle.jesc_first.specs.declared.tree.Part.{Part}
 use Rattle.jesc_first.specs.declared.tree.Part.TheVariants.{Number, Slot, Outcome}
 use Rattle.jesc_first.specs.declared.tree.Condition.{Condition}
@@ -21,9 +21,9 @@ length_behind [] qs = omega arith
 length_behind (p ∷ ps) qs = let k = length_behind ps qs in omega arith
 
 -- demands are read one after another, up to what is none
-demands_read : (scope : Texts) (demands : List Condition) (ts rest : List Token) → Spans ts (requires_pieces scope demands) rest
+demands_read : (scope : Texts) (demands : List Condition) (ts rest : List Lexeme) → Spans ts (requires_pieces scope demands) rest
     → All (IsCondition false (length scope)) demands → IsScope scope → expected Word true (codes "requires") rest ≡ None → Reads (demand_in scope) ts demands rest
-demands_read scope [] ts rest h v s stop = subst (λ (x : List Token). demand_in scope x ≡ Some (None, rest)) (sym h) (rw stop refl)
+demands_read scope [] ts rest h v s stop = subst (λ (x : List Lexeme). demand_in scope x ≡ Some (None, rest)) (sym h) (rw stop refl)
 demands_read scope (c ∷ cs) ts rest h v s stop =
     let more = requires_pieces scope cs in
     let a = expected_next Word true (codes "requires") ts (word true (codes "requires")) (condition_pieces scope c ++ (sign true (codes ";") ∷ more)) rest h refl in
@@ -36,7 +36,7 @@ demands_read scope (c ∷ cs) ts rest h v s stop =
     (d.1, rw (a.2, b.1, d.2) (refl {a = Some (Some c, d.1)}), omega arith, demands_read scope cs d.1 rest d.3 (all_tail (IsCondition false (length scope)) c cs v) s stop)
 
 -- pieces of which the first stands at an offset
-unplaced : (at : ℕ) (p : Piece) (ps qs : List Piece) (ts rest : List Token) → p.at ≡ None → Spans ts (placed at (p ∷ ps) ++ qs) rest
+pub unplaced : (at : ℕ) (p : Piece) (ps qs : List Piece) (ts rest : List Lexeme) → p.at ≡ None → Spans ts (placed at (p ∷ ps) ++ qs) rest
     → Spans ts ((p ∷ ps) ++ qs) rest × (offset_of_next ts ≡ at)
 unplaced at p ps qs [] rest e h = absurd h
 unplaced at p ps qs (t ∷ ts) rest e h = (
@@ -45,7 +45,7 @@ unplaced at p ps qs (t ∷ ts) rest e h = (
       kind = h.0.kind;
       text = h.0.text;
       note = h.0.note;
-      at = subst (λ (o : Option ℕ). IfSome o (λ a. t.at ≡ a)) (sym e) tt;
+      at = subst (λ (o : Option ℕ). IfSome o (λ a. t.span.from ≡ a)) (sym e) tt;
     },
     h.1,
   ),
@@ -53,16 +53,16 @@ unplaced at p ps qs (t ∷ ts) rest e h = (
 )
 
 -- no piece of a part has an offset
-part_unplaced : (note : Bool) (scope : Texts) (part : Part) → (part_piece note scope part).at ≡ None
+pub part_unplaced : (note : Bool) (scope : Texts) (part : Part) → (part_piece note scope part).at ≡ None
 part_unplaced note scope (Number n) = refl
 part_unplaced note scope (Slot i) = refl
 part_unplaced note scope Outcome = refl
 
 -- promises are read one after another, up to what is none
-promises_read : (outcome : Bool) (scope : Texts) (promises : List Clause) (ts rest : List Token) → Spans ts (ensures_pieces scope promises) rest
+promises_read : (outcome : Bool) (scope : Texts) (promises : List Clause) (ts rest : List Lexeme) → Spans ts (ensures_pieces scope promises) rest
     → All (λ clause. IsCondition outcome (length scope) clause.condition) promises → IsScope scope → expected Word true (codes "ensures") rest ≡ None
     → Reads (promise_in outcome scope) ts promises rest
-promises_read outcome scope [] ts rest h v s stop = subst (λ (x : List Token). promise_in outcome scope x ≡ Some (None, rest)) (sym h) (rw stop refl)
+promises_read outcome scope [] ts rest h v s stop = subst (λ (x : List Lexeme). promise_in outcome scope x ≡ Some (None, rest)) (sym h) (rw stop refl)
 promises_read outcome scope (c ∷ cs) ts rest h v s stop =
     let more = ensures_pieces scope cs in
     let pieces = placed c.at (condition_pieces scope c.condition) ++ (sign true (codes ";") ∷ more) in
@@ -85,15 +85,15 @@ promises_read outcome scope (c ∷ cs) ts rest h v s stop =
     )
 
 -- behind demands comes no further one: a promise comes, or what is neither
-no_demand : (scope : Texts) (promises : List Clause) (ts rest : List Token) → Spans ts (ensures_pieces scope promises) rest
+no_demand : (scope : Texts) (promises : List Clause) (ts rest : List Lexeme) → Spans ts (ensures_pieces scope promises) rest
     → expected Word true (codes "requires") rest ≡ None → expected Word true (codes "requires") ts ≡ None
-no_demand scope [] ts rest h stop = subst (λ (x : List Token). expected Word true (codes "requires") x ≡ None) (sym h) stop
+no_demand scope [] ts rest h stop = subst (λ (x : List Lexeme). expected Word true (codes "requires") x ≡ None) (sym h) stop
 no_demand scope (c ∷ cs) ts rest h stop =
     let pieces = placed c.at (condition_pieces scope c.condition) ++ (sign true (codes ";") ∷ ensures_pieces scope cs) in
     expected_other Word true (codes "requires") ts (word true (codes "ensures")) (spans_heads ts (word true (codes "ensures")) pieces rest h) refl
 
 -- the clauses are read, up to the heading
-pub clauses_read : (outcome : Bool) (scope : Texts) (demands : List Condition) (promises : List Clause) (ts mid rest : List Token)
+pub clauses_read : (outcome : Bool) (scope : Texts) (demands : List Condition) (promises : List Clause) (ts mid rest : List Lexeme)
     → Spans ts (requires_pieces scope demands) mid → Spans mid (ensures_pieces scope promises) rest
     → All (IsCondition false (length scope)) demands → All (λ clause. IsCondition outcome (length scope) clause.condition) promises → IsScope scope
     → Heads rest (word false (codes "static")) → clauses_in outcome scope ts (length rest) ≡ Some ((demands, promises), rest)

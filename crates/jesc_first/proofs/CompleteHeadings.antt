@@ -1,7 +1,7 @@
 -- The rules read every heading of a method whose names are new.
 use Rattle.std.proofs.Common.{◌≡◌, ℕ, true, false, List, [], ◌∷◌, ◌++◌, refl, sym, ap, ◌∙◌, subst, arith, Option, Some, None, codes, append_assoc}
-use Rattle.jesc_first.specs.declared.lexeme.Lexical.TheVariants.{Word, Sign}
-use Rattle.jesc_first.specs.declared.reader.token.Token.{Token}
+use Rattle.jesc_lexer.specs.declared.token.TokenKind.TheVariants.{Word, Sign}
+use Rattle.jesc_ast.specs.Lexemes.{Lexeme}
 use Rattle.jesc_first.specs.declared.tree.Sum.{Sum}
 use Rattle.jesc_first.specs.Spelling.{Piece, word, sign, parameter_pieces, result_text}
 use Rattle.jesc_first.specs.Names.{IsNew, AreNew, is_some_sum}
@@ -10,12 +10,12 @@ use Rattle.jesc_first.proofs.CompleteBase.{Spans, spans_split, spans_length, spa
 use Rattle.jesc_first.proofs.CompleteNames.{new_name_next}
 
 -- the parameters behind the first
-abbrev more_pieces : List (List ℕ) → List Piece
+abbrev pub more_pieces : List (List ℕ) → List Piece
 more_pieces [] = []
 more_pieces (name ∷ names) = sign false (codes ",") ∷ word false (codes "int") ∷ word false name ∷ more_pieces names
 
 -- the parameters are the first and those behind it
-more_is : (name : List ℕ) (names : List (List ℕ)) → parameter_pieces (name ∷ names) ≡ word false (codes "int") ∷ word false name ∷ more_pieces names
+pub more_is : (name : List ℕ) (names : List (List ℕ)) → parameter_pieces (name ∷ names) ≡ word false (codes "int") ∷ word false name ∷ more_pieces names
 more_is name [] = refl
 more_is name (next ∷ names) =
     ap (λ (ps : List Piece). word false (codes "int") ∷ word false name ∷ sign false (codes ",") ∷ ps) (more_is next names)
@@ -26,11 +26,11 @@ append_nothing [] = refl
 append_nothing (x ∷ xs) = ap (λ (ys : Texts). x ∷ ys) (append_nothing xs)
 
 -- further parameters are read one after another, up to what is no comma
-more_read : (names : List (List ℕ)) (scope end : Texts) (ts rest : List Token) → Spans ts (more_pieces names) rest → AreNew scope names → scope ++ names ≡ end
+more_read : (names : List (List ℕ)) (scope end : Texts) (ts rest : List Lexeme) → Spans ts (more_pieces names) rest → AreNew scope names → scope ++ names ≡ end
     → expected Sign false (codes ",") rest ≡ None → Turns more_parameter_in scope ts names end rest
 more_read [] scope end ts rest h n e stop =
     let same : scope ≡ end = sym (append_nothing scope) ∙ e in
-    subst (λ (x : List Token). more_parameter_in scope x ≡ Some ((None, end), rest)) (sym h) (rw stop (ap (λ (x : Texts). Some ((None, x), rest)) same))
+    subst (λ (x : List Lexeme). more_parameter_in scope x ≡ Some ((None, end), rest)) (sym h) (rw stop (ap (λ (x : Texts). Some ((None, x), rest)) same))
 more_read (name ∷ names) scope end ts rest h n e stop =
     let more = more_pieces names in
     let a = expected_next Sign false (codes ",") ts (sign false (codes ",")) (word false (codes "int") ∷ word false name ∷ more) rest h refl in
@@ -46,9 +46,9 @@ more_read (name ∷ names) scope end ts rest h n e stop =
     )
 
 -- the parameters are read, up to the closing parenthesis
-pub parameters_next : (names : List (List ℕ)) (ts : List Token) (ps : List Piece) (rest : List Token)
+pub parameters_next : (names : List (List ℕ)) (ts : List Lexeme) (ps : List Piece) (rest : List Lexeme)
     → Spans ts (parameter_pieces names ++ (sign false (codes ")") ∷ ps)) rest → AreNew [] names
-    → (mid : List Token) × (parameters_in ts ≡ Some ((names, names), mid)) × Spans mid (sign false (codes ")") ∷ ps) rest
+    → (mid : List Lexeme) × (parameters_in ts ≡ Some ((names, names), mid)) × Spans mid (sign false (codes ")") ∷ ps) rest
 parameters_next [] ts ps rest h n =
     let close : begins_with Sign false (codes ")") ts ≡ true =
     begins_is Sign false (codes ")") ts (sign false (codes ")")) (spans_heads ts (sign false (codes ")")) ps rest h) in
@@ -68,8 +68,8 @@ parameters_next (name ∷ names) ts ps rest h n =
     (c.0, rw (open_next, a.2, b.1, d) (refl {a = Some ((name ∷ names, name ∷ names), c.0)}), c.2)
 
 -- `int` or `void` is read
-result_next : (value : Option Sum) (ts : List Token) (ps : List Piece) (rest : List Token) → Spans ts (word false (result_text value) ∷ ps) rest
-    → (mid : List Token) × (result_in ts ≡ Some (is_some_sum value, mid)) × Spans mid ps rest
+result_next : (value : Option Sum) (ts : List Lexeme) (ps : List Piece) (rest : List Lexeme) → Spans ts (word false (result_text value) ∷ ps) rest
+    → (mid : List Lexeme) × (result_in ts ≡ Some (is_some_sum value, mid)) × Spans mid ps rest
 result_next (Some value) ts ps rest h =
     let a = expected_next Word false (codes "int") ts (word false (codes "int")) ps rest h refl in
     (a.1, rw a.2 refl, a.3)
@@ -83,16 +83,16 @@ abbrev pub heading_of : Texts → Option Sum → List ℕ → List (List ℕ) �
 heading_of names value name parameters =
     record { name = name; returns = is_some_sum value; parameters = parameters; scope = parameters; names = names ++ name ∷ [] }
 
--- the pieces of a heading, and then others
-abbrev pub heading_pieces : Option Sum → List ℕ → List (List ℕ) → List Piece → List Piece
-heading_pieces value name parameters ps =
+-- the pieces of a heading and a brace, and then others
+abbrev pub heading_before : Option Sum → List ℕ → List (List ℕ) → List Piece → List Piece
+heading_before value name parameters ps =
     word false (codes "static") ∷ word false (result_text value) ∷ word false name ∷ sign false (codes "(")
     ∷ (parameter_pieces parameters ++ (sign false (codes ")") ∷ sign false (codes "{") ∷ ps))
 
 -- a heading is read
-pub heading_next : (names : Texts) (value : Option Sum) (name : List ℕ) (parameters : List (List ℕ)) (ts : List Token) (ps : List Piece) (rest : List Token)
-    → Spans ts (heading_pieces value name parameters ps) rest → IsNew names name → AreNew [] parameters
-    → (mid : List Token) × (heading_in names ts ≡ Some (heading_of names value name parameters, mid)) × Spans mid ps rest
+pub heading_next : (names : Texts) (value : Option Sum) (name : List ℕ) (parameters : List (List ℕ)) (ts : List Lexeme) (ps : List Piece) (rest : List Lexeme)
+    → Spans ts (heading_before value name parameters ps) rest → IsNew names name → AreNew [] parameters
+    → (mid : List Lexeme) × (heading_in names ts ≡ Some (heading_of names value name parameters, mid)) × Spans mid ps rest
 heading_next names value name parameters ts ps rest h n v =
     let behind = sign false (codes ")") ∷ sign false (codes "{") ∷ ps in
     let inner = parameter_pieces parameters ++ behind in

@@ -12,10 +12,10 @@ use Rattle.std.proofs.lemmas.List.Elements.{All-push, All-nil}
 use Rattle.std.proofs.lemmas.List.Sums.{position_or_len_is}
 use Rattle.std.proofs.lemmas.Option.{unwrap_or-slice_get}
 use Rattle.std.proofs.lemmas.Slice.Eq.{bytes_eq-Decides}
-use Rattle.jesc_first.specs.declared.lexeme.Lexical.{Lexical}
-use Rattle.jesc_first.specs.declared.lexeme.Lexical.TheVariants.{Word}
-use Rattle.jesc_first.specs.declared.reader.token.Token.{Token}
-use Rattle.jesc_first.specs.Lexemes.{is_word_byte}
+use Rattle.jesc_lexer.specs.declared.token.TokenKind.{TokenKind}
+use Rattle.jesc_lexer.specs.declared.token.TokenKind.TheVariants.{Word}
+use Rattle.jesc_ast.specs.Lexemes.{Lexeme}
+use Rattle.jesc_first.specs.Names.{is_word_byte}
 use Rattle.jesc_first.specs.Spelling.{Piece, word}
 use Rattle.jesc_first.specs.Names.{IsName, IsNew, AreNew, is_reserved}
 use Rattle.jesc_first.specs.Parsing.{Texts, same_kind, is_plain, is_name_text, name_in, slot_in, number_in, new_name_in}
@@ -59,13 +59,13 @@ name_passes [] h = absurd h
 name_passes (b ∷ bytes) h = let k = all_word bytes h.1 in rw (h.0, k, h.2) refl
 
 -- a name is read where the next piece is one
-pub name_next : (ts : List Token) (text : List ℕ) (ps : List Piece) (rest : List Token) → Spans ts (word false text ∷ ps) rest → IsName text
-    → (mid : List Token) × (name_in ts ≡ Some (text, mid)) × Spans mid ps rest
+pub name_next : (ts : List Lexeme) (text : List ℕ) (ps : List Piece) (rest : List Lexeme) → Spans ts (word false text ∷ ps) rest → IsName text
+    → (mid : List Lexeme) × (name_in ts ≡ Some (text, mid)) × Spans mid ps rest
 name_next [] text ps rest h n = absurd h
 name_next (t ∷ ts) text ps rest h n =
-    let plain : is_plain t ≡ true = ap (λ (k : Lexical). same_kind k Word && not t.note) h.0.kind ∙ ap (λ (b : Bool). not b) h.0.note in
-    let named : is_name_text t.text.now ≡ true = ap is_name_text h.0.text ∙ name_passes text n in
-    let read : name_in (t ∷ ts) ≡ Some (t.text.now, ts) = rw (plain, named) refl in
+    let plain : is_plain t ≡ true = ap (λ (k : TokenKind). same_kind k Word && not t.note) h.0.kind ∙ ap (λ (b : Bool). not b) h.0.note in
+    let named : is_name_text t.text ≡ true = ap is_name_text h.0.text ∙ name_passes text n in
+    let read : name_in (t ∷ ts) ≡ Some (t.text, ts) = rw (plain, named) refl in
     (ts, read ∙ ap (λ (x : List ℕ). Some (x, ts)) h.0.text, h.1)
 
 -- a scope of distinct names
@@ -142,8 +142,8 @@ slot_reserved scope text s r = slot_none scope text (λ i l e. no (get_or scope 
         let k : false ≡ true = sym a ∙ b in cc
 
 -- a new name is read, and added
-pub new_name_next : (scope : Texts) (ts : List Token) (text : List ℕ) (ps : List Piece) (rest : List Token) → Spans ts (word false text ∷ ps) rest → IsNew scope text
-    → (mid : List Token) × (new_name_in scope ts ≡ Some ((text, scope ++ text ∷ []), mid)) × Spans mid ps rest
+pub new_name_next : (scope : Texts) (ts : List Lexeme) (text : List ℕ) (ps : List Piece) (rest : List Lexeme) → Spans ts (word false text ∷ ps) rest → IsNew scope text
+    → (mid : List Lexeme) × (new_name_in scope ts ≡ Some ((text, scope ++ text ∷ []), mid)) × Spans mid ps rest
 new_name_next scope ts text ps rest h n =
     let r = name_next ts text ps rest h n.0 in
     let none : slot_in scope text ≡ None = slot_new scope text n in

@@ -1,26 +1,22 @@
 -- What the tests of the reader on one token compute.
-use Rattle.std.proofs.Common.{◌≡◌, ◌≢◌, ℕ, ◌+◌, ◌<◌, ◌≤◌, Bool, true, false, ◌&&◌, not, cond, if◌then◌else◌, nat_eq, nat_le, nat_lt, List, [], ◌∷◌, ◌++◌, length, get_or, take, drop, suc, zero, pos, negsuc, ℤ, Option, Some, None, refl, sym, ap, ◌∙◌, subst, arith, bytes_eq, Bor, position, codes, ◌-◌}
-use Rattle.std.specs.List.{list_any, list_all, prefix_len}
+use Rattle.std.proofs.Common.{◌≡◌, ◌≢◌, ℕ, ◌+◌, ◌<◌, ◌≤◌, Bool, true, false, not, cond, if◌then◌else◌, nat_le, nat_lt, List, [], ◌∷◌, ◌++◌, length, get_or, take, drop, suc, zero, pos, negsuc, ℤ, Option, Some, None, refl, sym, ap, ◌∙◌, subst, arith, bytes_eq, Bor, position, codes, ◌-◌, append-nil, append_assoc}
+use Rattle.std.specs.List.{list_any, prefix_len}
 use Rattle.std.specs.Fmt.{decimal}
 use Rattle.std.specs.Str.Parse.{digits_value}
 use Rattle.std.proofs.lemmas.Fmt.{decimal_is_IsNumeral, decimal_digit, decimal_nonempty, first_decimal}
 use Rattle.std.proofs.lemmas.Slice.Eq.{bytes_eq-Decides}
 use Rattle.std.proofs.lemmas.Bool.Decides.{nat_tests}
 use Rattle.std.proofs.Math.Seq.{take-length}
-use Rattle.jesc_first.specs.declared.lexeme.Lexical.{Lexical}
-use Rattle.jesc_first.specs.declared.reader.cursor.Cursor.{Cursor}
-use Rattle.jesc_first.specs.declared.lexeme.Lexical.TheVariants.{Word, Sign}
-use Rattle.jesc_first.specs.declared.reader.token.Token.{Token}
+use Rattle.jesc_lexer.specs.declared.token.TokenKind.{TokenKind}
+use Rattle.jesc_lexer.specs.declared.token.TokenKind.TheVariants.{Word, Sign}
+use Rattle.jesc_ast.specs.Lexemes.{Lexeme}
 use lib.Signed.{le_z}
 use lib.IntN.{nat_abs}
 use Rattle.jesc_text.specs.Numbers.{IsNatural, IsNumber}
-use Rattle.jesc_first.specs.Parsing.{number_in, is_word_text, slot_in, is_token, from_static, expected, operator_in}
-use Rattle.jesc_first.specs.Lexemes.{is_letter, is_word_byte}
-use Rattle.jesc_first.specs.Scanning.{front}
-use Rattle.jesc_first.specs.Reads.{Adds}
+use Rattle.jesc_first.specs.Parsing.{number_in, slot_in, is_token, from_static, expected, operator_in}
+use Rattle.jesc_first.specs.Reads.{Adds, Keeps}
 use Rattle.jesc_first.proofs.Texts.{number_is}
 use Rattle.jesc_first.proofs.Shown.{shown}
-use Rattle.jesc_first.proofs.Scans.{rest_at, rest_is}
 
 -- ---- numbers
 
@@ -81,41 +77,13 @@ pub number_under : (text : List ℕ) (z y : ℤ) → y ≡ z → IsNumber text z
 number_under text (pos m) y e h o = absurd (let q : le_z (pos 0) (pos m) ≡ false = subst (λ (x : ℤ). le_z (pos 0) x ≡ false) e o in grind (arith, nat_tests))
 number_under text (negsuc m) y e h o = sym (number_below text m h)
 
--- ---- words
-
-no_suc : (n : ℕ) → nat_eq 0 (suc n) ≡ false
-no_suc n = grind (arith, nat_tests)
+-- ---- places of names
 
 lt_suc : (x y : ℕ) → nat_lt (1 + x) (suc y) ≡ nat_lt x y
 lt_suc x y = grind (arith, nat_tests)
 
-eq_suc : (x y : ℕ) → nat_eq (suc x) (suc y) ≡ nat_eq x y
-eq_suc x y = grind (arith, nat_tests)
-
 zero_lt : (n : ℕ) → nat_lt 0 (suc n) ≡ true
 zero_lt n = grind (arith, nat_tests)
-
-pub all_front : (p : ℕ → Bool) (bs : List ℕ) → nat_eq (front p bs) (length bs) ≡ list_all p bs
-all_front p [] = refl
-all_front p (b ∷ bs) = by (p b) refl (all_front p bs)
-  where
-    by : (v : Bool) → p b ≡ v → nat_eq (front p bs) (length bs) ≡ list_all p bs → nat_eq (front p (b ∷ bs)) (length (b ∷ bs)) ≡ list_all p (b ∷ bs)
-    by true e more = rw e (eq_suc (front p bs) (length bs) ∙ more)
-    by false e more = rw e (no_suc (length bs))
-
-pub word_is : (text : List ℕ) (n : ℕ) → 1 ≤ length text → is_letter (get_or text 0 0) ≡ true → n ≡ front is_word_byte (rest_at text 1)
-    → nat_eq n (length (rest_at text 1)) ≡ is_word_text text
-word_is [] n h l f = absurd (omega arith)
-word_is (b ∷ more) n h l f =
-    let rest : rest_at (b ∷ more) 1 ≡ more = rest_is (b ∷ more) 1 in
-    ap (λ (k : ℕ). nat_eq k (length (rest_at (b ∷ more) 1))) f
-    ∙ ap (λ (t : List ℕ). nat_eq (front is_word_byte t) (length t)) rest ∙ all_front is_word_byte more ∙ sym (ap (λ (v : Bool). v && list_all is_word_byte more) l)
-
-pub no_word : (text : List ℕ) → 1 ≤ length text → is_letter (get_or text 0 0) ≡ false → false ≡ is_word_text text
-no_word [] h l = absurd (omega arith)
-no_word (b ∷ more) h l = sym (ap (λ (v : Bool). v && list_all is_word_byte more) l)
-
--- ---- places of names
 
 -- how many names stand before the first that passes
 before_shown : (p : List ℕ → Bool) (ks : List (Bor (List ℕ))) → prefix_len (λ n. not (p n)) (shown ks) ≡ prefix_len (λ k. not (p k.now)) ks
@@ -141,6 +109,11 @@ shown_push : (ks : List (Bor (List ℕ))) (k : Bor (List ℕ)) → shown (ks ++ 
 shown_push [] k = refl
 shown_push (x ∷ ks) k = ap (λ (ys : List (List ℕ)). x.now ∷ ys) (shown_push ks k)
 
+pub take_shown : (n : ℕ) (ks : List (Bor (List ℕ))) → shown (take n ks) ≡ take n (shown ks)
+take_shown zero ks = refl
+take_shown (suc n) [] = refl
+take_shown (suc n) (k ∷ ks) = ap (λ (ys : List (List ℕ)). k.now ∷ ys) (take_shown n ks)
+
 pub adds_shown : (w : Bor (List ℕ)) (ks new : List (Bor (List ℕ))) (added : Bool) → added ≡ not (list_any (λ k. bytes_eq w.now k.now) ks)
     → new ≡ (if list_any (λ k. bytes_eq w.now k.now) ks then ks else ks ++ w ∷ []) → Adds (shown ks) w.now (slot_in (shown ks) w.now) added (shown new)
 adds_shown w ks new added a n = by (list_any (λ k. bytes_eq w.now k.now) ks) refl a n
@@ -150,36 +123,47 @@ adds_shown w ks new added a n = by (list_any (λ k. bytes_eq w.now k.now) ks) re
     by true q r s = subst (λ (o : Option ℕ). Adds (shown ks) w.now o added (shown new)) (sym (ap (λ (b : Bool). cond b (Some (prefix_len (λ n. not (bytes_eq w.now n)) (shown ks))) None) (any_place (λ n. bytes_eq w.now n) ks ∙ q))) (r, ap shown s)
     by false q r s = subst (λ (o : Option ℕ). Adds (shown ks) w.now o added (shown new)) (sym (ap (λ (b : Bool). cond b (Some (prefix_len (λ n. not (bytes_eq w.now n)) (shown ks))) None) (any_place (λ n. bytes_eq w.now n) ks ∙ q))) (r, ap shown s ∙ shown_push ks w)
 
--- ---- tokens
+-- what was added stands last
+pub adds_keeps : (old : List (List ℕ)) (name : List ℕ) (slot : Option ℕ) (added : Bool) (new : List (List ℕ)) → Adds old name slot added new → Keeps old new
+adds_keeps old name None added new a = (name ∷ [], a.1)
+adds_keeps old name (Some slot) added new a = ([], a.1 ∙ sym (append-nil old))
 
-missed : (kind : Lexical) (note : Bool) (text : List ℕ) (t : Token) (ts : List Token) → expected kind note text (t ∷ ts) ≡ None → is_token kind note text t ≡ false
+pub keeps_same : (old new : List (List ℕ)) → new ≡ old → Keeps old new
+keeps_same old new e = ([], e ∙ sym (append-nil old))
+
+pub keeps_more : (old mid new : List (List ℕ)) → Keeps old mid → Keeps mid new → Keeps old new
+keeps_more old mid new (more, e) (rest, f) = (more ++ rest, f ∙ ap (λ (x : List (List ℕ)). x ++ rest) e ∙ append_assoc old more rest)
+
+-- ---- lexemes
+
+missed : (kind : TokenKind) (note : Bool) (text : List ℕ) (t : Lexeme) (ts : List Lexeme) → expected kind note text (t ∷ ts) ≡ None → is_token kind note text t ≡ false
 missed kind note text t ts h = by (is_token kind note text t) refl h
   where
-    by : (b : Bool) → is_token kind note text t ≡ b → (let o : Option (ℕ × List Token) = if b then Some (t.at, ts) else None in o) ≡ None → is_token kind note text t ≡ false
+    by : (b : Bool) → is_token kind note text t ≡ b → (let o : Option (ℕ × List Lexeme) = if b then Some (t.span.from, ts) else None in o) ≡ None → is_token kind note text t ≡ false
     by true e q = absurd (cc)
     by false e q = e
 
-pub static_here : (ts : List Token) (d : Token) → 1 ≤ length ts → is_token Word false (codes "static") (get_or ts 0 d) ≡ true → ts ≡ from_static ts
+pub static_here : (ts : List Lexeme) (d : Lexeme) → 1 ≤ length ts → is_token Word false (codes "static") (get_or ts 0 d) ≡ true → ts ≡ from_static ts
 static_here [] d h e = absurd (omega arith)
 static_here (t ∷ ts) d h e = rw e refl
 
-pub static_later : (ts : List Token) (d : Token) → 1 ≤ length ts → is_token Word false (codes "static") (get_or ts 0 d) ≡ false → from_static ts ≡ from_static (take (length ts - 1) (drop 1 ts))
+pub static_later : (ts : List Lexeme) (d : Lexeme) → 1 ≤ length ts → is_token Word false (codes "static") (get_or ts 0 d) ≡ false → from_static ts ≡ from_static (take (length ts - 1) (drop 1 ts))
 static_later [] d h e = absurd (omega arith)
 static_later (t ∷ ts) d h e = rw e (ap from_static (sym (rest_of t ts)))
   where
-    rest_of : (t : Token) (ts : List Token) → take (length (t ∷ ts) - 1) (drop 1 (t ∷ ts)) ≡ ts
+    rest_of : (t : Lexeme) (ts : List Lexeme) → take (length (t ∷ ts) - 1) (drop 1 (t ∷ ts)) ≡ ts
     rest_of t ts = ap (λ (n : ℕ). take n ts) (omega arith) ∙ take-length ts
 
-pub static_nowhere : (ts : List Token) → length ts < 1 → ts ≡ from_static ts
+pub static_nowhere : (ts : List Lexeme) → length ts < 1 → ts ≡ from_static ts
 static_nowhere [] h = refl
 static_nowhere (t ∷ ts) h = absurd (omega arith)
 
-pub operator_none : (note : Bool) (ts : List Token) → expected Sign note (codes "+") ts ≡ None → expected Sign note (codes "-") ts ≡ None → operator_in note ts ≡ (None, ts)
+pub operator_none : (note : Bool) (ts : List Lexeme) → expected Sign note (codes "+") ts ≡ None → expected Sign note (codes "-") ts ≡ None → operator_in note ts ≡ (None, ts)
 operator_none note [] p m = refl
 operator_none note (t ∷ ts) p m = rw (missed Sign note (codes "+") t ts p, missed Sign note (codes "-") t ts m) refl
 
-pub operator_kept : (note : Bool) (a b d : Cursor) → expected Sign note (codes "+") a.rest.now ≡ None → expected Sign note (codes "-") b.rest.now ≡ None → b ≡ a → d ≡ b
-    → operator_in note a.rest.now ≡ (None, d.rest.now)
+pub operator_kept : (note : Bool) (a b d : List Lexeme) → expected Sign note (codes "+") a ≡ None → expected Sign note (codes "-") b ≡ None → b ≡ a → d ≡ b
+    → operator_in note a ≡ (None, d)
 operator_kept note a b d p m e f =
-    subst (λ (x : Cursor). operator_in note a.rest.now ≡ (None, x.rest.now)) (sym (f ∙ e))
-    (operator_none note a.rest.now p (subst (λ (x : Cursor). expected Sign note (codes "-") x.rest.now ≡ None) e m))
+    subst (λ (x : List Lexeme). operator_in note a ≡ (None, x)) (sym (f ∙ e))
+    (operator_none note a p (subst (λ (x : List Lexeme). expected Sign note (codes "-") x ≡ None) e m))

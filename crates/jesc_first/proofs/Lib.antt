@@ -1,6 +1,3 @@
-mod Bytes
-mod Steps
-mod Scans
 mod Shown
 mod Equal
 mod Loops
@@ -19,3 +16,14 @@ mod CompleteHeadings
 mod CompleteBodies
 mod CompleteClass
 mod Whole
+mod Spanned
+mod Headings
+mod Foreign
+mod Places
+mod RunBase
+mod RunSums
+mod RunClauses
+mod RunHeadings
+mod RunBodies
+mod RunClasses
+mod Strays

@@ -9,9 +9,9 @@ use Rattle.std.proofs.lemmas.List.Elements.{All-nil, All-cons}
 use Rattle.std.specs.List.{list_all, position_or_len}
 use Rattle.std.specs.Str.{bytes_eq}
 use Rattle.std.specs.Str.Parse.{digits_value}
-use Rattle.jesc_first.specs.declared.lexeme.Lexical.{Lexical}
-use Rattle.jesc_first.specs.declared.lexeme.Lexical.TheVariants.{Word, Backslash, Number as Digits, Sign}
-use Rattle.jesc_first.specs.declared.reader.token.Token.{Token}
+use Rattle.jesc_lexer.specs.declared.token.TokenKind.{TokenKind}
+use Rattle.jesc_lexer.specs.declared.token.TokenKind.TheVariants.{Word, Backslash, Number as Digits, Sign}
+use Rattle.jesc_ast.specs.Lexemes.{Lexeme}
 use Rattle.jesc_first.specs.declared.tree.Operator.{Operator}
 use Rattle.jesc_first.specs.declared.tree.Operator.TheVariants.{Plus, Minus}
 use Rattle.jesc_first.specs.declared.tree.Comparison.{Comparison}
@@ -21,7 +21,7 @@ use Rattle.jesc_first.specs.declared.tree.Part.TheVariants.{Number, Slot, Outcom
 use Rattle.jesc_first.specs.declared.tree.Operation.{Operation}
 use Rattle.jesc_first.specs.declared.tree.Sum.{Sum}
 use Rattle.jesc_first.specs.declared.tree.Condition.{Condition}
-use Rattle.jesc_first.specs.Lexemes.{is_letter, is_word_byte}
+use Rattle.jesc_first.specs.Names.{is_letter, is_word_byte}
 use Rattle.jesc_first.specs.Spelling.{word, sign, sign_at, part_piece, operator_text, operation_pieces, sum_pieces, comparison_text, condition_pieces}
 use Rattle.jesc_first.specs.Names.{is_reserved, IsName, IsPart, IsSum, IsCondition}
 use Rattle.jesc_first.specs.Parsing.{Texts, same_kind, same_side, is_token, expected, is_word_text, is_name_text, is_plain, name_in, slot_in, part_of_kind, part_and, part_in, operator_in, operation_after, operation_in, operations_in, sum_in, comparison_in, condition_in, value_in}
@@ -36,27 +36,27 @@ name_text_is (b ∷ bytes) h r =
     (and_left (is_letter b) (list_all is_word_byte bytes) h, AllPass-from_list_all is_word_byte bytes (and_right (is_letter b) (list_all is_word_byte bytes) h), r)
 
 -- a plain word fits the piece of its text
-pub plain_taken : (token : Token) (rest : List Token) → is_plain token ≡ true → Taken (token ∷ rest) (word false token.text.now ∷ []) rest
+pub plain_taken : (token : Lexeme) (rest : List Lexeme) → is_plain token ≡ true → Taken (token ∷ rest) (word false token.text ∷ []) rest
 plain_taken token rest h =
-    taken_one token rest (word false token.text.now) (record {
+    taken_one token rest (word false token.text) (record {
       kind = same_kind_is token.kind Word (and_left (same_kind token.kind Word) (not token.note) h);
       text = refl;
       note = not_true token.note (and_right (same_kind token.kind Word) (not token.note) h);
       at = tt;
     })
 
-pub record NameTaken (tokens : List Token) (text : List ℕ) (rest : List Token) : Type 0 where
+pub record NameTaken (tokens : List Lexeme) (text : List ℕ) (rest : List Lexeme) : Type 0 where
   pub taken : Taken tokens (word false text ∷ []) rest
   pub valid : IsName text
 
-pub name_sound : (tokens : List Token) → Gives (name_in tokens) (NameTaken tokens)
+pub name_sound : (tokens : List Lexeme) → Gives (name_in tokens) (NameTaken tokens)
 name_sound [] = gives_none (NameTaken [])
-name_sound (token ∷ rest) = gives_if (is_plain token && is_name_text token.text.now) token.text.now rest (NameTaken (token ∷ rest)) (λ h.
-    let n : (is_word_text token.text.now && not (is_reserved token.text.now)) ≡ true = and_right (is_plain token) (is_name_text token.text.now) h in
+name_sound (token ∷ rest) = gives_if (is_plain token && is_name_text token.text) token.text rest (NameTaken (token ∷ rest)) (λ h.
+    let n : (is_word_text token.text && not (is_reserved token.text)) ≡ true = and_right (is_plain token) (is_name_text token.text) h in
     record {
-      taken = plain_taken token rest (and_left (is_plain token) (is_name_text token.text.now) h);
-      valid = name_text_is token.text.now (and_left (is_word_text token.text.now) (not (is_reserved token.text.now)) n)
-          (not_true (is_reserved token.text.now) (and_right (is_word_text token.text.now) (not (is_reserved token.text.now)) n));
+      taken = plain_taken token rest (and_left (is_plain token) (is_name_text token.text) h);
+      valid = name_text_is token.text (and_left (is_word_text token.text) (not (is_reserved token.text)) n)
+          (not_true (is_reserved token.text) (and_right (is_word_text token.text) (not (is_reserved token.text)) n));
     })
 
 -- ---- slots
@@ -89,87 +89,87 @@ slot_missing scope text h (k, l, e) =
 
 -- ---- parts
 
-pub record PartTaken (note outcome : Bool) (scope : Texts) (tokens : List Token) (part : Part) (rest : List Token) : Type 0 where
+pub record PartTaken (note outcome : Bool) (scope : Texts) (tokens : List Lexeme) (part : Part) (rest : List Lexeme) : Type 0 where
   pub taken : Taken tokens (part_piece note scope part ∷ []) rest
   pub valid : IsPart outcome (length scope) part
 
-part_test : (b : Bool) (part : Part) (rest : List Token) (P : Part → List Token → Type 0) → (b ≡ true → P part rest) → Gives (part_and (if b then Some part else None) rest) P
+part_test : (b : Bool) (part : Part) (rest : List Lexeme) (P : Part → List Lexeme → Type 0) → (b ≡ true → P part rest) → Gives (part_and (if b then Some part else None) rest) P
 part_test true part rest P h = gives_some part rest P (h refl)
 part_test false part rest P h = gives_none P
 
-number_test : (b : Bool) (n : ℕ) (rest : List Token) (P : Part → List Token → Type 0) → (b ≡ true → P (Number n) rest) → Gives (part_and (option_map Number (if b then Some n else None)) rest) P
+number_test : (b : Bool) (n : ℕ) (rest : List Lexeme) (P : Part → List Lexeme → Type 0) → (b ≡ true → P (Number n) rest) → Gives (part_and (option_map Number (if b then Some n else None)) rest) P
 number_test true n rest P h = gives_some (Number n) rest P (h refl)
 number_test false n rest P h = gives_none P
 
-slot_test : (found : Option ℕ) (rest : List Token) (P : Part → List Token → Type 0) → ((slot : ℕ) → found ≡ Some slot → P (Slot slot) rest) → Gives (part_and (option_map Slot found) rest) P
+slot_test : (found : Option ℕ) (rest : List Lexeme) (P : Part → List Lexeme → Type 0) → ((slot : ℕ) → found ≡ Some slot → P (Slot slot) rest) → Gives (part_and (option_map Slot found) rest) P
 slot_test None rest P h = gives_none P
 slot_test (Some slot) rest P h = gives_some (Slot slot) rest P (h slot refl)
 
 at_most : (n m : ℕ) → nat_le n m ≡ true → n ≤ m
 at_most n m h = grind (arith, nat_tests)
 
-part_of : (note outcome : Bool) (scope : Texts) (token : Token) (rest : List Token) (kind : Lexical) → token.kind ≡ kind → token.note ≡ note
-    → Gives (part_and (part_of_kind outcome scope token.text.now kind) rest) (PartTaken note outcome scope (token ∷ rest))
+part_of : (note outcome : Bool) (scope : Texts) (token : Lexeme) (rest : List Lexeme) (kind : TokenKind) → token.kind ≡ kind → token.note ≡ note
+    → Gives (part_and (part_of_kind outcome scope token.text kind) rest) (PartTaken note outcome scope (token ∷ rest))
 part_of note outcome scope token rest Word k n =
-    slot_test (slot_in scope token.text.now) rest (PartTaken note outcome scope (token ∷ rest)) (λ slot e.
-    let s : (slot < length scope) × (unwrap_or (slice_get scope slot) [] ≡ token.text.now) = slot_found scope token.text.now slot e in
+    slot_test (slot_in scope token.text) rest (PartTaken note outcome scope (token ∷ rest)) (λ slot e.
+    let s : (slot < length scope) × (unwrap_or (slice_get scope slot) [] ≡ token.text) = slot_found scope token.text slot e in
     record { taken = taken_one token rest (part_piece note scope (Slot slot)) (record { kind = k; text = sym s.1; note = n; at = tt }); valid = s.0 })
 part_of note outcome scope token rest Digits k n =
-    let m : ℕ = digits_value 10 token.text.now in
-    number_test (nat_le m 2147483647 && bytes_eq token.text.now (decimal m)) m rest (PartTaken note outcome scope (token ∷ rest)) (λ e.
+    let m : ℕ = digits_value 10 token.text in
+    number_test (nat_le m 2147483647 && bytes_eq token.text (decimal m)) m rest (PartTaken note outcome scope (token ∷ rest)) (λ e.
     record {
       taken = taken_one token rest (part_piece note scope (Number m)) (record {
         kind = k;
-        text = (bytes_eq-Decides token.text.now (decimal m)).0 (and_right (nat_le m 2147483647) (bytes_eq token.text.now (decimal m)) e);
+        text = (bytes_eq-Decides token.text (decimal m)).0 (and_right (nat_le m 2147483647) (bytes_eq token.text (decimal m)) e);
         note = n;
         at = tt;
       });
-      valid = at_most m 2147483647 (and_left (nat_le m 2147483647) (bytes_eq token.text.now (decimal m)) e);
+      valid = at_most m 2147483647 (and_left (nat_le m 2147483647) (bytes_eq token.text (decimal m)) e);
     })
 part_of note outcome scope token rest Backslash k n =
-    part_test (outcome && bytes_eq token.text.now (codes "\\result")) Outcome rest (PartTaken note outcome scope (token ∷ rest)) (λ e.
+    part_test (outcome && bytes_eq token.text (codes "\\result")) Outcome rest (PartTaken note outcome scope (token ∷ rest)) (λ e.
     record {
       taken = taken_one token rest (part_piece note scope Outcome) (record {
         kind = k;
-        text = (bytes_eq-Decides token.text.now (codes "\\result")).0 (and_right outcome (bytes_eq token.text.now (codes "\\result")) e);
+        text = (bytes_eq-Decides token.text (codes "\\result")).0 (and_right outcome (bytes_eq token.text (codes "\\result")) e);
         note = n;
         at = tt;
       });
-      valid = and_left outcome (bytes_eq token.text.now (codes "\\result")) e;
+      valid = and_left outcome (bytes_eq token.text (codes "\\result")) e;
     })
 part_of note outcome scope token rest Sign k n = gives_none (PartTaken note outcome scope (token ∷ rest))
 
-pub part_sound : (note outcome : Bool) (scope : Texts) (tokens : List Token) → Gives (part_in note outcome scope tokens) (PartTaken note outcome scope tokens)
+pub part_sound : (note outcome : Bool) (scope : Texts) (tokens : List Lexeme) → Gives (part_in note outcome scope tokens) (PartTaken note outcome scope tokens)
 part_sound note outcome scope [] = gives_none (PartTaken note outcome scope [])
 part_sound note outcome scope (token ∷ rest) =
-    gives_either (same_side token.note note) (part_and (part_of_kind outcome scope token.text.now token.kind) rest) None (PartTaken note outcome scope (token ∷ rest))
+    gives_either (same_side token.note note) (part_and (part_of_kind outcome scope token.text token.kind) rest) None (PartTaken note outcome scope (token ∷ rest))
     (λ e. part_of note outcome scope token rest token.kind refl (same_side_is token.note note e))
     (λ e. gives_none (PartTaken note outcome scope (token ∷ rest)))
 
 -- ---- operations
 
-abbrev OperatorTaken : Bool → List Token → Operator × ℕ → List Token → Type 0
+abbrev OperatorTaken : Bool → List Lexeme → Operator × ℕ → List Lexeme → Type 0
 OperatorTaken note tokens operator rest = Taken tokens (sign_at note (operator_text operator.0) operator.1 ∷ []) rest
 
-pick_operator : (note : Bool) (token : Token) (rest : List Token) (b c : Bool)
-    → (b ≡ true → Taken (token ∷ rest) (sign_at note (codes "+") token.at ∷ []) rest) → (c ≡ true → Taken (token ∷ rest) (sign_at note (codes "-") token.at ∷ []) rest)
-    → let r : Option (Operator × ℕ) × List Token = if b then (Some (Plus, token.at), rest) else (if c then (Some (Minus, token.at), rest) else (None, token ∷ rest)) in
+pick_operator : (note : Bool) (token : Lexeme) (rest : List Lexeme) (b c : Bool)
+    → (b ≡ true → Taken (token ∷ rest) (sign_at note (codes "+") token.span.from ∷ []) rest) → (c ≡ true → Taken (token ∷ rest) (sign_at note (codes "-") token.span.from ∷ []) rest)
+    → let r : Option (Operator × ℕ) × List Lexeme = if b then (Some (Plus, token.span.from), rest) else (if c then (Some (Minus, token.span.from), rest) else (None, token ∷ rest)) in
     Found (OperatorTaken note) (token ∷ rest) r.0 r.1
 pick_operator note token rest true c h k = h refl
 pick_operator note token rest false true h k = k refl
 pick_operator note token rest false false h k = refl
 
-operator_sound : (note : Bool) (tokens : List Token) → Found (OperatorTaken note) tokens (operator_in note tokens).0 (operator_in note tokens).1
+operator_sound : (note : Bool) (tokens : List Lexeme) → Found (OperatorTaken note) tokens (operator_in note tokens).0 (operator_in note tokens).1
 operator_sound note [] = refl
 operator_sound note (token ∷ rest) =
     pick_operator note token rest (is_token Sign note (codes "+") token) (is_token Sign note (codes "-") token)
     (λ e. (token_is Sign note (codes "+") token rest e).firmly) (λ e. (token_is Sign note (codes "-") token rest e).firmly)
 
-pub record OperationTaken (note outcome : Bool) (scope : Texts) (tokens : List Token) (operation : Operation) (rest : List Token) : Type 0 where
+pub record OperationTaken (note outcome : Bool) (scope : Texts) (tokens : List Lexeme) (operation : Operation) (rest : List Lexeme) : Type 0 where
   pub taken : Taken tokens (operation_pieces note scope (operation ∷ [])) rest
   pub valid : IsPart outcome (length scope) operation.part
 
-operation_from : (note outcome : Bool) (scope : Texts) (tokens : List Token) (found : Option (Operator × ℕ)) (mid : List Token)
+operation_from : (note outcome : Bool) (scope : Texts) (tokens : List Lexeme) (found : Option (Operator × ℕ)) (mid : List Lexeme)
     → Found (OperatorTaken note) tokens found mid → Gives (operation_after note outcome scope found mid) (Found (OperationTaken note outcome scope) tokens)
 operation_from note outcome scope tokens None mid h = gives_some None mid (Found (OperationTaken note outcome scope) tokens) h
 operation_from note outcome scope tokens (Some operator) mid h =
@@ -177,17 +177,17 @@ operation_from note outcome scope tokens (Some operator) mid h =
     let operation : Operation = record { operator = operator.0; at = operator.1; part = part } in
     gives_some (Some operation) rest (Found (OperationTaken note outcome scope) tokens) (record { taken = taken_cons h p.taken; valid = p.valid }))
 
-operation_sound : (note outcome : Bool) (scope : Texts) (tokens : List Token) → Gives (operation_in note outcome scope tokens) (Found (OperationTaken note outcome scope) tokens)
+operation_sound : (note outcome : Bool) (scope : Texts) (tokens : List Lexeme) → Gives (operation_in note outcome scope tokens) (Found (OperationTaken note outcome scope) tokens)
 operation_sound note outcome scope tokens = operation_from note outcome scope tokens (operator_in note tokens).0 (operator_in note tokens).1 (operator_sound note tokens)
 
-pub record OperationsTaken (note outcome : Bool) (scope : Texts) (tokens : List Token) (operations : List Operation) (rest : List Token) : Type 0 where
+pub record OperationsTaken (note outcome : Bool) (scope : Texts) (tokens : List Lexeme) (operations : List Operation) (rest : List Lexeme) : Type 0 where
   pub taken : Taken tokens (operation_pieces note scope operations) rest
   pub valid : All (λ operation. IsPart outcome (length scope) operation.part) operations
 
-operations_row : (note outcome : Bool) (scope : Texts) (tokens : List Token) (operations : List Operation) (rest : List Token)
+operations_row : (note outcome : Bool) (scope : Texts) (tokens : List Lexeme) (operations : List Operation) (rest : List Lexeme)
     → Row (OperationTaken note outcome scope) tokens operations rest → OperationsTaken note outcome scope tokens operations rest
 operations_row note outcome scope tokens [] rest h = record {
-  taken = subst (λ (ts : List Token). Taken tokens [] ts) h (taken_none tokens);
+  taken = subst (λ (ts : List Lexeme). Taken tokens [] ts) h (taken_none tokens);
   valid = All-nil (λ (operation : Operation). IsPart outcome (length scope) operation.part);
 }
 operations_row note outcome scope tokens (operation ∷ operations) rest (mid, one, more) =
@@ -197,16 +197,16 @@ operations_row note outcome scope tokens (operation ∷ operations) rest (mid, o
       valid = All-cons (λ (operation : Operation). IsPart outcome (length scope) operation.part) operation operations one.valid others.valid;
     }
 
-operations_sound : (note outcome : Bool) (scope : Texts) (tokens : List Token) → Gives (operations_in note outcome scope tokens) (Row (OperationTaken note outcome scope) tokens)
+operations_sound : (note outcome : Bool) (scope : Texts) (tokens : List Lexeme) → Gives (operations_in note outcome scope tokens) (Row (OperationTaken note outcome scope) tokens)
 operations_sound note outcome scope tokens = list_sound (operation_in note outcome scope) (OperationTaken note outcome scope) (operation_sound note outcome scope) tokens
 
 -- ---- sums and conditions
 
-pub record SumTaken (note outcome : Bool) (scope : Texts) (tokens : List Token) (sum : Sum) (rest : List Token) : Type 0 where
+pub record SumTaken (note outcome : Bool) (scope : Texts) (tokens : List Lexeme) (sum : Sum) (rest : List Lexeme) : Type 0 where
   pub taken : Taken tokens (sum_pieces note scope sum) rest
   pub valid : IsSum outcome (length scope) sum
 
-pub sum_sound : (note outcome : Bool) (scope : Texts) (tokens : List Token) → Gives (sum_in note outcome scope tokens) (SumTaken note outcome scope tokens)
+pub sum_sound : (note outcome : Bool) (scope : Texts) (tokens : List Lexeme) → Gives (sum_in note outcome scope tokens) (SumTaken note outcome scope tokens)
 sum_sound note outcome scope tokens =
     gives_bind (part_in note outcome scope tokens) _ (PartTaken note outcome scope tokens) (SumTaken note outcome scope tokens) (part_sound note outcome scope tokens) (λ first mid p.
     gives_bind (operations_in note outcome scope mid) _ (Row (OperationTaken note outcome scope) mid) (SumTaken note outcome scope tokens) (operations_sound note outcome scope mid) (λ operations rest r.
@@ -214,24 +214,24 @@ sum_sound note outcome scope tokens =
     let sum : Sum = record { first = first; rest = operations } in
     gives_some sum rest (SumTaken note outcome scope tokens) (record { taken = taken_cons p.taken others.taken; valid = (p.valid, others.valid) })))
 
-abbrev ComparisonTaken : List Token → Comparison → List Token → Type 0
+abbrev ComparisonTaken : List Lexeme → Comparison → List Lexeme → Type 0
 ComparisonTaken tokens comparison rest = Taken tokens (sign true (comparison_text comparison) ∷ []) rest
 
-comparison_sound : (tokens : List Token) → Gives (comparison_in tokens) (ComparisonTaken tokens)
+comparison_sound : (tokens : List Lexeme) → Gives (comparison_in tokens) (ComparisonTaken tokens)
 comparison_sound [] = gives_none (ComparisonTaken [])
 comparison_sound (token ∷ rest) =
-    let P : Comparison → List Token → Type 0 = ComparisonTaken (token ∷ rest) in
+    let P : Comparison → List Lexeme → Type 0 = ComparisonTaken (token ∷ rest) in
     gives_either (is_token Sign true (codes "<") token) _ _ P (λ e. gives_some Less rest P (token_is Sign true (codes "<") token rest e).loosely) (λ _.
     gives_either (is_token Sign true (codes "<=") token) _ _ P (λ e. gives_some AtMost rest P (token_is Sign true (codes "<=") token rest e).loosely) (λ _.
     gives_either (is_token Sign true (codes ">") token) _ _ P (λ e. gives_some Greater rest P (token_is Sign true (codes ">") token rest e).loosely) (λ _.
     gives_either (is_token Sign true (codes ">=") token) _ _ P (λ e. gives_some AtLeast rest P (token_is Sign true (codes ">=") token rest e).loosely) (λ _.
     gives_if (is_token Sign true (codes "==") token) Equal rest P (λ e. (token_is Sign true (codes "==") token rest e).loosely)))))
 
-pub record ConditionTaken (outcome : Bool) (scope : Texts) (tokens : List Token) (condition : Condition) (rest : List Token) : Type 0 where
+pub record ConditionTaken (outcome : Bool) (scope : Texts) (tokens : List Lexeme) (condition : Condition) (rest : List Lexeme) : Type 0 where
   pub taken : Taken tokens (condition_pieces scope condition) rest
   pub valid : IsCondition outcome (length scope) condition
 
-pub condition_sound : (outcome : Bool) (scope : Texts) (tokens : List Token) → Gives (condition_in outcome scope tokens) (ConditionTaken outcome scope tokens)
+pub condition_sound : (outcome : Bool) (scope : Texts) (tokens : List Lexeme) → Gives (condition_in outcome scope tokens) (ConditionTaken outcome scope tokens)
 condition_sound outcome scope tokens =
     gives_bind (sum_in true outcome scope tokens) _ (SumTaken true outcome scope tokens) (ConditionTaken outcome scope tokens) (sum_sound true outcome scope tokens) (λ left mid l.
     gives_bind (comparison_in mid) _ (ComparisonTaken mid) (ConditionTaken outcome scope tokens) (comparison_sound mid) (λ comparison end c.
@@ -240,11 +240,11 @@ condition_sound outcome scope tokens =
     gives_some condition rest (ConditionTaken outcome scope tokens) (record { taken = taken_append l.taken (taken_cons c r.taken); valid = (l.valid, r.valid) }))))
 
 -- a sum outside annotations, and the mark after it
-pub record ValueTaken (scope : Texts) (tokens : List Token) (value : Sum) (rest : List Token) : Type 0 where
+pub record ValueTaken (scope : Texts) (tokens : List Lexeme) (value : Sum) (rest : List Lexeme) : Type 0 where
   pub taken : Taken tokens (sum_pieces false scope value ++ sign false (codes ";") ∷ []) rest
   pub valid : IsSum false (length scope) value
 
-pub value_sound : (scope : Texts) (tokens : List Token) → Gives (value_in scope tokens) (ValueTaken scope tokens)
+pub value_sound : (scope : Texts) (tokens : List Lexeme) → Gives (value_in scope tokens) (ValueTaken scope tokens)
 value_sound scope tokens =
     gives_bind (sum_in false false scope tokens) _ (SumTaken false false scope tokens) (ValueTaken scope tokens) (sum_sound false false scope tokens) (λ value mid s.
     gives_bind (expected Sign false (codes ";") mid) _ (IsNext Sign false (codes ";") mid) (ValueTaken scope tokens) (expected_sound Sign false (codes ";") mid) (λ mark rest m.

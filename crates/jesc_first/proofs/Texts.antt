@@ -8,7 +8,6 @@ use Rattle.std.proofs.lemmas.Int.{ints}
 use mir.Syntax.{w128}
 use mir.Val.{SFits}
 use Rattle.jesc_text.specs.Numbers.{IsNumber}
-use Rattle.jesc_first.specs.Scanning.{front}
 
 own : IsNumeralModel (AllDigits 10) (digits_value 10)
 own = record { to = λ ds h. h; from = λ ds h. h; same = λ ds h. refl }

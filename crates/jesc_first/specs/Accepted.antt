@@ -9,17 +9,20 @@ use Rattle.jesc_first.specs.declared.tree.Stmt.{Stmt}
 use Rattle.jesc_first.specs.declared.tree.Stmt.TheVariants.{Local, Assign, Assert}
 use Rattle.jesc_first.specs.declared.tree.Method.{Method}
 use Rattle.jesc_first.specs.declared.tree.Class.{Class}
-use Rattle.jesc_first.specs.Lexemes.{Lexeme, SpellsFile}
-use Rattle.jesc_first.specs.Spelling.{Match, class_pieces}
-use Rattle.jesc_first.specs.Names.{IsClass}
+use Rattle.jesc_ast.specs.Lexemes.{Lexeme}
+use Rattle.jesc_first.specs.Spelling.{Match, classes_pieces}
+use Rattle.jesc_first.specs.Names.{AreNew, IsClass}
 use Rattle.jesc_first.specs.Machine.{check, IsSafe}
 
--- The bytes are a file of the first profile, and this is its class.
-pub record Accepted (bytes : List ℕ) (class : Class) : Type 0 where
-  pub lexemes : List Lexeme
-  pub spelled : SpellsFile bytes lexemes
-  pub matched : Match lexemes (class_pieces class)
-  pub named : IsClass class
+abbrev pub names_of : List Class → List (List ℕ)
+names_of classes = map (λ class. class.name) classes
+
+-- The lexemes are a file of the first profile, and these are its classes. `before` are the names of the classes of
+-- earlier files.
+pub record Accepted (before : List (List ℕ)) (lexemes : List Lexeme) (classes : List Class) : Type 0 where
+  pub matched : Match lexemes (classes_pieces classes)
+  pub named : All IsClass classes
+  pub distinct : AreNew before (names_of classes)
 
 -- The constructor of a class that writes none: a body that only ends.
 abbrev pub constructor_of : Class → Method

@@ -1,9 +1,11 @@
-pub mod Lexemes
 pub mod Spelling
 pub mod Names
 pub mod Machine
 pub mod Accepted
-pub mod Scanning
+pub mod Seen
 pub mod Reads
 pub mod Parsing
+pub mod Recognizing
+pub mod Recognized
+pub mod Fronts
 pub mod Outside

@@ -1,5 +1,5 @@
 -- The rules of the first profile on names, numbers and `\result`.
-use Rattle.std.specs.Prelude.{◌≡◌, ℕ, ◌<◌, ◌≤◌, Bool, true, false, List, [], ◌∷◌, ◌++◌, length, codes, Option, Some, None, All, Contains, map}
+use Rattle.std.specs.Prelude.{◌≡◌, ℕ, ◌<◌, ◌≤◌, Bool, true, false, ◌||◌, ◌&&◌, nat_le, nat_eq, List, [], ◌∷◌, ◌++◌, length, codes, Option, Some, None, All, Contains, map}
 use Rattle.std.specs.List.{list_any}
 use Rattle.std.specs.Str.{bytes_eq}
 use Rattle.jesc_first.specs.declared.tree.Part.{Part}
@@ -10,8 +10,17 @@ use Rattle.jesc_first.specs.declared.tree.Stmt.{Stmt}
 use Rattle.jesc_first.specs.declared.tree.Stmt.TheVariants.{Local, Assign, Assert}
 use Rattle.jesc_first.specs.declared.tree.Method.{Method}
 use Rattle.jesc_first.specs.declared.tree.Class.{Class}
-use Rattle.jesc_first.specs.Lexemes.{is_letter, is_word_byte}
 use Rattle.jesc_first.specs.Spelling.{scope_after, scope_at_end}
+
+-- ASCII letters and the underscore
+abbrev pub is_letter : ℕ → Bool
+is_letter b = (nat_le 97 b && nat_le b 122) || (nat_le 65 b && nat_le b 90) || nat_eq b 95
+
+abbrev pub is_digit : ℕ → Bool
+is_digit b = nat_le 48 b && nat_le b 57
+
+abbrev pub is_word_byte : ℕ → Bool
+is_word_byte b = is_letter b || is_digit b
 
 -- the keywords and literals of Java, and the underscore alone
 abbrev pub reserved_words : List (List ℕ)

@@ -1,8 +1,9 @@
--- The grammar of the first profile, as the text of a tree: a class is spelled by the pieces below, one a lexeme.
+-- The grammar of the first profile, as the text of trees: classes are spelled by the pieces below, one a lexeme.
 use Rattle.std.specs.Prelude.{◌≡◌, ℕ, Bool, true, false, List, [], ◌∷◌, ◌++◌, codes, Option, Some, None, IfSome, unwrap_or, slice_get}
 use Rattle.std.specs.Fmt.{decimal}
-use Rattle.jesc_first.specs.declared.lexeme.Lexical.{Lexical}
-use Rattle.jesc_first.specs.declared.lexeme.Lexical.TheVariants.{Word, Backslash, Number as Digits, Sign}
+use Rattle.jesc_lexer.specs.declared.token.TokenKind.{TokenKind}
+use Rattle.jesc_lexer.specs.declared.token.TokenKind.TheVariants.{Word, Backslash, Number as Digits, Sign}
+use Rattle.jesc_ast.specs.Lexemes.{Lexeme}
 use Rattle.jesc_first.specs.declared.tree.Operator.{Operator}
 use Rattle.jesc_first.specs.declared.tree.Operator.TheVariants.{Plus, Minus}
 use Rattle.jesc_first.specs.declared.tree.Comparison.{Comparison}
@@ -17,11 +18,10 @@ use Rattle.jesc_first.specs.declared.tree.Stmt.{Stmt}
 use Rattle.jesc_first.specs.declared.tree.Stmt.TheVariants.{Local, Assign, Assert}
 use Rattle.jesc_first.specs.declared.tree.Method.{Method}
 use Rattle.jesc_first.specs.declared.tree.Class.{Class}
-use Rattle.jesc_first.specs.Lexemes.{Lexeme}
 
 -- What a lexeme has to be: its kind and text, whether it stands in an annotation, and its offset, where the tree keeps it.
 pub record Piece : Type 0 where
-  pub kind : Lexical
+  pub kind : TokenKind
   pub text : List ℕ
   pub note : Bool
   pub at : Option ℕ
@@ -30,7 +30,7 @@ pub record Fits (lexeme : Lexeme) (piece : Piece) : Type 0 where
   pub kind : lexeme.kind ≡ piece.kind
   pub text : lexeme.text ≡ piece.text
   pub note : lexeme.note ≡ piece.note
-  pub at : IfSome piece.at (λ at. lexeme.at ≡ at)
+  pub at : IfSome piece.at (λ at. lexeme.span.from ≡ at)
 
 -- the lexemes fit the pieces one by one
 abbrev pub Match : List Lexeme → List Piece → Type 0
@@ -137,14 +137,19 @@ abbrev pub result_text : Option Sum → List ℕ
 result_text (Some value) = codes "int"
 result_text None = codes "void"
 
+-- static RESULT NAME ( PARAMETERS )
+abbrev pub heading_pieces : List ℕ → List ℕ → List (List ℕ) → List Piece
+heading_pieces result name parameters =
+    (word false (codes "static") ∷ word false result ∷ word false name ∷ sign false (codes "(") ∷ [])
+    ++ parameter_pieces parameters
+    ++ sign false (codes ")") ∷ []
+
 abbrev pub method_pieces : Method → List Piece
 method_pieces method =
     requires_pieces method.parameters method.demands
     ++ ensures_pieces method.parameters method.promises
-    ++ (word false (codes "static") ∷ word false (result_text method.value) ∷ word false method.name ∷ sign false (codes "(") ∷ [])
-    ++ parameter_pieces method.parameters
-    ++ (sign false (codes ")") ∷ sign false (codes "{") ∷ [])
-    ++ body_pieces method.parameters method.body
+    ++ heading_pieces (result_text method.value) method.name method.parameters
+    ++ (sign false (codes "{") ∷ body_pieces method.parameters method.body)
     ++ end_pieces (scope_at_end method.parameters method.body) method.exit method.value
 
 abbrev pub methods_pieces : List Method → List Piece
@@ -155,3 +160,8 @@ methods_pieces (method ∷ rest) = method_pieces method ++ methods_pieces rest
 abbrev pub class_pieces : Class → List Piece
 class_pieces class =
     word false (codes "class") ∷ word false class.name ∷ sign false (codes "{") ∷ (methods_pieces class.methods ++ sign false (codes "}") ∷ [])
+
+-- the classes of a file, in order
+abbrev pub classes_pieces : List Class → List Piece
+classes_pieces [] = []
+classes_pieces (class ∷ rest) = class_pieces class ++ classes_pieces rest

@@ -1,105 +1,89 @@
 //! The reader of the first profile.
 
-ghost use Rattle.std.specs.Prelude.{◌≡◌, ◌≤◌, ℕ, All, length, IfOk};
-ghost use Rattle.jesc_first.specs.Accepted.{Accepted};
-ghost use Rattle.jesc_first.specs.Outside.{IsOutside, LiesWithin, IsWithin};
-ghost use Rattle.jesc_first.specs.Reads.{ReadsFile, StraysWithin};
-ghost use Rattle.jesc_first.specs.Scanning.{StandsWithin};
+ghost use Rattle.std.specs.Prelude.{◌≡◌, ◌≤◌, ◌++◌, length, None, IfOk, IfErr, IsTrue};
+ghost use Rattle.std.specs.List.{list_all};
+ghost use Rattle.jesc_lexer.specs.Spans.{AreSpans};
+ghost use Rattle.jesc_ast.specs.Lexemes.{is_within, lexemes};
+ghost use Rattle.jesc_first.specs.Accepted.{Accepted, names_of};
+ghost use Rattle.jesc_first.specs.Outside.{IsOutside};
+ghost use Rattle.jesc_first.specs.Parsing.{parsed};
 
 mod body;
-mod bytes;
 mod clauses;
 mod cursor;
+mod foreign;
 mod header;
+mod lexeme;
 mod methods;
 mod names;
+mod phase;
 mod place;
+mod recognizer;
 mod reserved;
-mod scan;
+mod step;
 mod sums;
-mod token;
+mod transition;
 
-use crate::reader::cursor::{Cursor, Stop};
-use crate::reader::methods::class;
-use crate::reader::scan::scan;
-use crate::reader::token::Token;
+use crate::reader::cursor::Stop;
+use crate::reader::methods::read_file;
+use crate::reader::place::place_in;
+use crate::reader::step::cursor_of;
 use crate::tree::Class;
+use jesc_lexer::Tokens;
+use jesc_text::{List, OutOfMemory};
+pub use names::Names;
 use std::alloc::Global;
-
-/// Where a file breaks the first profile first.
-#[derive(Debug, Drop, Clone, Copy, PartialEq, Eq)]
-pub enum Found {
-    /// The token from the offset `from` up to the offset `to`, which is not part of it.
-    Token { from: u32, to: u32 },
-    /// The byte at this offset, which begins no token.
-    Character { at: u32 },
-    /// The end of the file.
-    End,
-}
 
 /// Why a file could not be read.
 #[derive(Debug, Drop, Clone, Copy, PartialEq, Eq)]
 pub enum ReadError {
-    /// The file is outside the first profile, and this is the first place that shows it.
-    Outside(Found),
+    /// The file is outside the first profile, and this is the number of the first token that shows it, counted from 0.
+    /// Where the file ends too early, it is the number of all tokens.
+    Outside { at: u32 },
     /// Memory ran out.
     OutOfMemory,
 }
 
-fn token_place(token: &Token<'_>) -> Found
-    ensures { (size : ℕ) → size ≤ 1048576 → StandsWithin size token.now → LiesWithin size result }
+/// The refusal of tokens that are no file.
+fn refusal<'a>(alloc: Global, tokens: &'a Tokens, names: &mut Names<'a>) -> ReadError
+    requires within { IsTrue (list_all (is_within (length tokens.now.text)) tokens.now.list) }
+    requires few { length tokens.now.list ≤ 1048576 }
+    requires unread { parsed names.old (lexemes tokens.now) ≡ None }
+    ensures { IsOutside names.old (lexemes tokens.now) result }
 {
-    let len = u32::try_from(token.text.len()).unwrap_or(u32::MAX);
-    Found::Token {
-        from: token.at,
-        to: token.at.saturating_add(len),
+    let cursor = cursor_of(tokens);
+    match place_in(alloc, &cursor, names) {
+        Ok(place) => ReadError::Outside {
+            at: (cursor.left() - place.left()) as u32,
+        },
+        Err(OutOfMemory) => ReadError::OutOfMemory,
     }
 }
 
-/// The place of the first of the last `left` tokens, and where there is none, that of the stray byte or the end.
-fn found_at(tokens: &[Token<'_>], left: usize, stray: Option<u32>) -> Found
-    ensures { (size : ℕ) → size ≤ 1048576 → All (StandsWithin size) tokens.now → StraysWithin size stray → LiesWithin size result }
-{
-    match (tokens.get(tokens.len().saturating_sub(left)), stray) {
-        (Some(token), _) => token_place(token),
-        (None, Some(at)) => Found::Character { at },
-        (None, None) => Found::End,
-    }
-}
-
-/// Reads a file as the class that its tokens are.
-fn read_tokens(alloc: Global, bytes: &[u8]) -> Result<Class, ReadError>
-    requires { length bytes.now ≤ 1048576 }
-    ensures reads { ReadsFile bytes.now result }
-    ensures within { IsWithin (length bytes.now) result }
-{
-    let Ok(scan) = scan(alloc, bytes) else {
-        return Err(ReadError::OutOfMemory);
-    };
-    let mut cursor = Cursor {
-        rest: scan.tokens.as_slice(),
-    };
-    match (class(alloc, &mut cursor), scan.stray) {
-        (Ok(class), None) => Ok(class),
-        (Ok(_), Some(at)) => Err(ReadError::Outside(Found::Character { at })),
-        (Err(Stop::Refused), stray) => {
-            let left = cursor.rest.len();
-            Err(ReadError::Outside(found_at(scan.tokens.as_slice(), left, stray)))
-        }
-        (Err(Stop::Memory), _) => Err(ReadError::OutOfMemory),
-    }
-}
-
-/// Reads a file of at most 1,048,576 bytes as a class of the first profile.
+/// Reads the tokens of a file, as `lex` makes them, as classes of the first profile, in their order.
 ///
-/// Answers `Outside` exactly where the bytes are no such class, with the first place that shows it, and `OutOfMemory`
-/// where there is no room for its tree.
-#[tactic(auto, using(crate::proofs::Whole::reads_accepted, crate::proofs::Whole::reads_outside))]
-pub fn read(alloc: Global, bytes: &[u8]) -> Result<Class, ReadError>
-    requires { length bytes.now ≤ 1048576 }
-    ensures accepted { IfOk result (λ class. Accepted bytes.now class) }
-    ensures refused { IsOutside bytes.now result }
-    ensures within { IsWithin (length bytes.now) result }
+/// `names` has the names of the classes of earlier files, which the classes of this file may not have; theirs are added
+/// to it. Answers `Outside` exactly where the tokens are no such classes, with the first token up to which no file
+/// begins, or with a name before it in the specification of a method that has no parameter of this name. Answers
+/// `OutOfMemory` where there is no room for the trees or the names. After an error `names` may have further names.
+pub fn read_classes<'a>(
+    alloc: Global,
+    tokens: &'a Tokens,
+    names: &mut Names<'a>,
+) -> Result<List<Class>, ReadError>
+    requires spans { AreSpans (length tokens.now.text) 0 tokens.now.list }
+    requires short { length tokens.now.text ≤ 1048576 }
+    ensures accepted { IfOk result (λ classes. Accepted names.old (lexemes tokens.now) classes × (names.new ≡ names.old ++ names_of classes)) }
+    ensures refused { IfErr result (λ error. IsOutside names.old (lexemes tokens.now) error) }
 {
-    read_tokens(alloc, bytes)
+    let before = names.len();
+    let mut cursor = cursor_of(tokens);
+    match read_file(alloc, &mut cursor, names) {
+        Ok(classes) => Ok(classes),
+        Err(Stop::Refused) => {
+            names.cut(before);
+            Err(refusal(alloc, tokens, names))
+        }
+        Err(Stop::Memory) => Err(ReadError::OutOfMemory),
+    }
 }

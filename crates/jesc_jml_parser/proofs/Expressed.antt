@@ -1,5 +1,5 @@
 -- What the functional form gives is what the call answers.
-use Rattle.std.proofs.Common.{◌≡◌, ◌⊎◌, ℕ, zero, suc, ◌+◌, ◌-◌, ◌≤◌, ◌<◌, Bool, true, false, IsTrue, List, [], ◌∷◌, ◌++◌, map, length, take, drop, Option, Some, None, Result, Ok, Err, refl, sym, ap, ◌∙◌, subst, arith, inl, inr}
+use Rattle.std.proofs.Common.{◌≡◌, ◌⊎◌, ℕ, zero, suc, ◌+◌, ◌-◌, ◌≤◌, ◌<◌, Bool, true, IsTrue, List, [], ◌∷◌, ◌++◌, map, length, drop, Ok, Err, refl, sym, ap, ◌∙◌, subst, arith, inl, inr}
 use Rattle.std.specs.Prelude.{slice_get, codes}
 use Rattle.std.proofs.lemmas.List.{length-drop, length-map, drop-map, drop-drop}
 use Rattle.jesc_text.specs.declared.place.Place.{Place}
@@ -10,25 +10,25 @@ use Rattle.jesc_ast.specs.Lexemes.{Lexeme, lexeme_of, lexemes}
 use Rattle.jesc_ast.specs.Words.{is_one_of}
 use Rattle.jesc_ast.specs.Trees.{Expression, view}
 use Rattle.jesc_ast.specs.Expressions.{IsQuantifier, is_forall, is_exists}
-use Rattle.jesc_jml_parser.specs.declared.fault.Fault.{Fault}
-use Rattle.jesc_jml_parser.specs.declared.fault.Fault.TheVariants as faults
-use Rattle.jesc_jml_parser.specs.declared.fault.ParseError.{ParseError}
-use Rattle.jesc_jml_parser.specs.declared.fault.ParseError.TheVariants as errors
+use Rattle.jesc_jml_grammar.specs.declared.fault.Fault.{Fault}
+use Rattle.jesc_jml_grammar.specs.declared.fault.Fault.TheVariants as faults
+use Rattle.jesc_jml_grammar.specs.declared.fault.ParseError.{ParseError}
+use Rattle.jesc_jml_grammar.specs.declared.fault.ParseError.TheVariants as errors
 use Rattle.jesc_jml_parser.specs.declared.error.SyntaxError.{SyntaxError}
 use Rattle.jesc_jml_parser.specs.declared.error.SyntaxError.TheVariants as refusals
-use Rattle.jesc_jml_parser.specs.Steps.{Outcome, mark_at}
-use Rattle.jesc_jml_parser.specs.Refining.{ok_is, Stops}
-use Rattle.jesc_jml_parser.specs.Reading.{Parsed, is_quantifier_mark, expr, at_first, turns}
+use Rattle.jesc_jml_grammar.specs.Steps.{Outcome, mark_at}
+use Rattle.jesc_jml_grammar.specs.Refining.{ok_is}
+use Rattle.jesc_jml_grammar.specs.Reading.{Parsed, is_quantifier_mark, at_first, turns}
 use Rattle.jesc_jml_parser.specs.Answers.{IsLongest, IsRefused, IsStuck}
-use Rattle.jesc_jml_parser.specs.SoundLexemes.{Quantifies, quantifies}
+use Rattle.jesc_jml_parser.specs.SoundLexemes.{quantifies}
 use Rattle.jesc_jml_parser.specs.Stable.{refines_expr}
 use Rattle.jesc_jml_parser.specs.Places.{split_at}
 use Rattle.jesc_jml_parser.specs.DeepPlaces.{deep_place, depth_of_taken}
 use Rattle.jesc_jml_parser.specs.Whole.{found, only, unexpected, deep, parsed_of}
-use Rattle.jesc_jml_parser.specs.Refusals.{IsErrorOf, IsRefusal, IsFault, place_of_next, is_quantifier_next}
+use Rattle.jesc_jml_parser.specs.Refusals.{IsErrorOf, IsFault, place_of_next, is_quantifier_next}
 use Rattle.jesc_jml_parser.specs.Parsed.{lexemes_from, IsFound, IsAnswer, IsExpressionRefusal, whole, IsGiven}
 
-count : (tokens : Tokens) (from : ℕ) → length (lexemes_from tokens from) ≡ length tokens.list - from
+pub count : (tokens : Tokens) (from : ℕ) → length (lexemes_from tokens from) ≡ length tokens.list - from
 count tokens from = length-drop from (lexemes tokens) ∙ ap (λ (n : ℕ). n - from) (length-map tokens.list (lexeme_of tokens.text))
 
 pub seen_from : (text : List ℕ) (list : List Token) (from : ℕ) → map (lexeme_of text) (drop from list) ≡ drop from (map (lexeme_of text) list)
@@ -92,7 +92,7 @@ quantifier_text : (w : List ℕ) (all : Bool) → IsQuantifier w all → IsTrue 
 quantifier_text w all is_forall = refl
 quantifier_text w all is_exists = refl
 
-quantifier_at : (note : Bool) (tokens : Tokens) (list : List Token) (at : ℕ)
+pub quantifier_at : (note : Bool) (tokens : Tokens) (list : List Token) (at : ℕ)
     → is_quantifier_mark (mark_at note (drop at (map (lexeme_of tokens.text) list))) ≡ true → IsTrue (is_quantifier_next tokens (slice_get list at))
 unfolding mark_at
 quantifier_at note tokens [] zero e = absurd cc

@@ -1,5 +1,4 @@
-pub mod Turns
-pub mod ListTurns
-pub mod Room
 pub mod Spanned
 pub mod Expressed
+pub mod Answered
+pub mod Noted

@@ -8,18 +8,18 @@ use Rattle.jesc_ast.specs.Lexemes.{Lexeme, join}
 use Rattle.jesc_ast.specs.Expressions.{type_tree}
 use Rattle.jesc_ast.specs.SpecTrees.{StoreForm, Store}
 use Rattle.jesc_ast.specs.SpecTrees as trees
-use Rattle.jesc_jml_parser.specs.declared.mark.Mark.{Mark}
-use Rattle.jesc_jml_parser.specs.declared.mark.Mark.TheVariants as m
-use Rattle.jesc_jml_parser.specs.declared.note_word.NoteWord.{NoteWord}
-use Rattle.jesc_jml_parser.specs.declared.note_word.NoteWord.TheVariants as w
-use Rattle.jesc_jml_parser.specs.Steps.{Parser, too_deep, refuse, same_mark, take_one, ◌>>=◌, expect}
-use Rattle.jesc_jml_parser.specs.Reading as reading
-use Rattle.jesc_jml_parser.specs.Reading.{Parsed, Start, at_first, is_type_mark, word_of}
-use Rattle.jesc_jml_parser.specs.Refining.{Refines, refines_pure, refines_refuse, refines_deep, refines_peek, refines_take_one, refines_bind, refines_if, refines_expect, refines_long, head, mark_at-head}
-use Rattle.jesc_jml_parser.specs.ClauseMarks.{word_at, same_word, at_mark, peek_word, expect_word, span_at, peek_span, may_begin_clause, is_heading_word, is_modifier_word, is_represents_sign}
-use Rattle.jesc_jml_parser.specs.ClauseLists.{IsByHead, refines_look, refines_until, refines_separated, refines_more_separated}
-use Rattle.jesc_jml_parser.specs.ClauseReading as spec
-use Rattle.jesc_jml_parser.specs.ClauseReading.{Sized, Ended, Path, plain, with_index, StoreStep, goes_on, is_read, closed, no_items, with_more, with_ended, with_word, none_behind}
+use Rattle.jesc_jml_grammar.specs.declared.mark.Mark.{Mark}
+use Rattle.jesc_jml_grammar.specs.declared.mark.Mark.TheVariants as m
+use Rattle.jesc_jml_grammar.specs.declared.note_word.NoteWord.{NoteWord}
+use Rattle.jesc_jml_grammar.specs.declared.note_word.NoteWord.TheVariants as w
+use Rattle.jesc_jml_grammar.specs.Steps.{Parser, too_deep, refuse, same_mark, take_one, ◌>>=◌, expect}
+use Rattle.jesc_jml_grammar.specs.Reading as reading
+use Rattle.jesc_jml_grammar.specs.Reading.{Parsed, Start, at_first, is_type_mark, word_of}
+use Rattle.jesc_jml_grammar.specs.Refining.{Refines, refines_pure, refines_refuse, refines_deep, refines_peek, refines_take_one, refines_bind, refines_if, refines_expect, refines_long, head, mark_at-head}
+use Rattle.jesc_jml_grammar.specs.ClauseMarks.{word_at, same_word, at_mark, peek_word, expect_word, span_at, peek_span, may_begin_clause, is_heading_word, is_modifier_word, is_represents_sign}
+use Rattle.jesc_jml_grammar.specs.ClauseLists.{IsByHead, refines_look, refines_until, refines_separated, refines_more_separated}
+use Rattle.jesc_jml_grammar.specs.ClauseReading as spec
+use Rattle.jesc_jml_grammar.specs.ClauseReading.{Sized, Path, StoreStep, goes_on, is_read, closed, no_items, with_more, with_word, none_behind}
 
 -- ---- what the next lexeme is
 
@@ -355,7 +355,7 @@ module _ (same : Bool) (limit limit' : ℕ) (limits : limit ≤ limit') (room ro
   unfolding spec.modifier
   refines_modifier = chain _ _ _ _ sight (λ word. refines_if same (is_modifier_word word) _ _ _ _ (refines_take_one same) (refines_refuse same))
 
-  refines_modifiers : (ws : List Word) → Refines same (spec.modifiers limit room less k ws) (spec.modifiers limit' room' more k' ws)
+  pub refines_modifiers : (ws : List Word) → Refines same (spec.modifiers limit room less k ws) (spec.modifiers limit' room' more k' ws)
   unfolding spec.modifiers
   refines_modifiers ws = refines_until same _ (by_word is_modifier_word) _ _ _ refines_modifier limit limit' limits ws
 
@@ -384,7 +384,7 @@ module _ (same : Bool) (limit limit' : ℕ) (limits : limit ≤ limit') (room ro
   unfolding spec.some_groups
   refines_some_groups = chain _ _ _ _ (eat_word w.In) (λ s. chain _ _ _ _ refines_names (λ ws. chain _ _ _ _ (eat m.Semicolon) (λ q. refines_pure same _)))
 
-  refines_groups : (last : Lexeme) → Refines same (spec.groups limit room less k last) (spec.groups limit' room' more k' last)
+  pub refines_groups : (last : Lexeme) → Refines same (spec.groups limit room less k last) (spec.groups limit' room' more k' last)
   unfolding spec.groups
   refines_groups last = chain _ _ _ _ sight (λ word. refines_if same (same_word word w.In) _ _ _ _ refines_some_groups (refines_pure same (spec.ended [] 0 last)))
 
@@ -406,7 +406,7 @@ module _ (same : Bool) (limit limit' : ℕ) (limits : limit ≤ limit') (room ro
   refines_form_by ws w.Field = refines_if same (spec.allow_field ws) _ _ _ _ (refines_spec_field_behind ws) (refines_refuse same)
   refines_form_by ws _ = refines_refuse same
 
-  refines_form_behind : (ws : List Word) → Refines same (spec.form_behind limit room less k ws) (spec.form_behind limit' room' more k' ws)
+  pub refines_form_behind : (ws : List Word) → Refines same (spec.form_behind limit room less k ws) (spec.form_behind limit' room' more k' ws)
   unfolding spec.form_behind
   refines_form_behind ws = chain _ _ _ _ sight (refines_form_by ws)
 

@@ -4,8 +4,8 @@ use Rattle.jesc_ast.specs.Lexemes.{Lexeme}
 use Rattle.jesc_ast.specs.Trees.{Expression, Expressions}
 use Rattle.jesc_ast.specs.Expressions.{Spells, is_number, is_true, is_false, is_null, is_this, is_outcome, is_plain_name, is_paren, is_member, is_index, is_unary, is_binary, is_choose, is_cast, is_instance_of, is_own_call, is_super_call, is_call, is_new_object, is_new_array, is_old, is_fresh, is_quantifier, SpellsArguments, no_arguments, some_arguments, SpellsMore, no_more, one_more}
 use Rattle.jesc_ast.specs.Depth.{depth, nesting}
-use Rattle.jesc_jml_parser.specs.Steps.{mark_at}
-use Rattle.jesc_jml_parser.specs.Reading.{at_first, expr}
+use Rattle.jesc_jml_grammar.specs.Steps.{mark_at}
+use Rattle.jesc_jml_grammar.specs.Reading.{at_first, expr}
 use Rattle.jesc_jml_parser.specs.Edges.{goes_on}
 use Rattle.jesc_jml_parser.specs.CompleteSteps.{IsRead, Climbs, read_whole}
 use Rattle.jesc_jml_parser.specs.CompleteArguments.{IsReadAsArguments, IsReadAsMore, no_more_read, one_more_read, no_arguments_read, some_arguments_read}
@@ -19,7 +19,7 @@ module _ (note : Bool) (limit : ℕ) where
   whole = read_whole note limit
 
   mutual
-    climbs : {k : ℕ} {e : Expression} {u : List Lexeme} → Spells note k e u → length u ≤ limit → Climbs note limit k e u
+    pub climbs : {k : ℕ} {e : Expression} {u : List Lexeme} → Spells note k e u → length u ≤ limit → Climbs note limit k e u
     climbs (is_number s x) le = number_climbs note limit s x
     climbs (is_true s) le = true_climbs note limit s
     climbs (is_false s) le = false_climbs note limit s

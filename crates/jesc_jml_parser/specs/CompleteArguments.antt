@@ -5,12 +5,12 @@ use Rattle.jesc_ast.specs.Lexemes.{Lexeme, chosen_word, chosen_sign, sign, kept,
 use Rattle.jesc_ast.specs.Trees.{Expression, Expressions, no_expressions, more_expressions, expressions_of, list_of, Receiver, call}
 use Rattle.jesc_ast.specs.Expressions.{Spells, SpellsMore, no_more, one_more}
 use Rattle.jesc_ast.specs.Depth.{depth, nesting, receiver_depth, greatest_depth, greatest_nesting}
-use Rattle.jesc_jml_parser.specs.declared.mark.Mark.{Mark}
-use Rattle.jesc_jml_parser.specs.declared.mark.Mark.TheVariants as m
-use Rattle.jesc_jml_parser.specs.Marks.{sign_mark}
-use Rattle.jesc_jml_parser.specs.Steps.{Outcome, Parser, mark_at, same_mark}
-use Rattle.jesc_jml_parser.specs.Reading as spec
-use Rattle.jesc_jml_parser.specs.Reading.{Parsed, Listed, Start, at_first, opens, casts, binds, needs, nothing, with_last, call_of, expr}
+use Rattle.jesc_jml_grammar.specs.declared.mark.Mark.{Mark}
+use Rattle.jesc_jml_grammar.specs.declared.mark.Mark.TheVariants as m
+use Rattle.jesc_jml_grammar.specs.Marks.{sign_mark}
+use Rattle.jesc_jml_grammar.specs.Steps.{Outcome, Parser, mark_at, same_mark}
+use Rattle.jesc_jml_grammar.specs.Reading as spec
+use Rattle.jesc_jml_grammar.specs.Reading.{Parsed, Listed, Start, at_first, opens, casts, binds, needs, nothing, with_last, call_of, expr}
 use Rattle.jesc_jml_parser.specs.Edges.{goes_on}
 use Rattle.jesc_jml_parser.specs.CompleteMarks.{sign_at, took_sign, opens_first}
 use Rattle.jesc_jml_parser.specs.CompleteEdges.{closed_by, positive}

@@ -9,11 +9,11 @@ use Rattle.jesc_ast.specs.Lexemes.{Lexeme, join}
 use Rattle.jesc_ast.specs.Words.{is_name, is_one_of}
 use Rattle.jesc_ast.specs.Trees.{Expression, name, paren}
 use Rattle.jesc_ast.specs.Expressions.{Spells, is_plain_name, is_paren, is_member, is_unary, is_binary, is_choose, is_cast, is_instance_of, IsOperator, is_equivalence, is_implication, is_cast_by, begins_cast}
-use Rattle.jesc_jml_parser.specs.declared.mark.Mark.{Mark}
-use Rattle.jesc_jml_parser.specs.declared.mark.Mark.TheVariants as m
-use Rattle.jesc_jml_parser.specs.Marks.{spelling, mark_among, keyword_mark, backslash_mark, sign_mark, mark_of, is_same_side, lexeme_mark}
-use Rattle.jesc_jml_parser.specs.Steps.{mark_at, same_mark}
-use Rattle.jesc_jml_parser.specs.Reading.{opens, casts, binds, needs, right_of, grows, allows_prefix}
+use Rattle.jesc_jml_grammar.specs.declared.mark.Mark.{Mark}
+use Rattle.jesc_jml_grammar.specs.declared.mark.Mark.TheVariants as m
+use Rattle.jesc_jml_grammar.specs.Marks.{spelling, mark_among, keyword_mark, backslash_mark, sign_mark, mark_of, is_same_side, lexeme_mark}
+use Rattle.jesc_jml_grammar.specs.Steps.{mark_at, same_mark}
+use Rattle.jesc_jml_grammar.specs.Reading.{opens, casts, binds, needs, right_of, grows, allows_prefix}
 use Rattle.jesc_jml_parser.specs.Edges.{strength, operator_mark, goes_inside, goes_on}
 use Rattle.jesc_jml_parser.specs.CompleteMarks.{same_text}
 

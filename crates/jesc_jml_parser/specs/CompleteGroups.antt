@@ -8,13 +8,13 @@ use Rattle.jesc_ast.specs.Lexemes.{Lexeme, chosen_word, sign, join}
 use Rattle.jesc_ast.specs.Words.{is_name, is_primitive, is_type_word}
 use Rattle.jesc_ast.specs.Trees.{Expression, name, paren, cast}
 use Rattle.jesc_ast.specs.Expressions.{span_of, type_tree, Spells, SpellsType, is_plain_type, is_array_type, is_cast_before, begins_cast}
-use Rattle.jesc_jml_parser.specs.declared.mark.Mark.{Mark}
-use Rattle.jesc_jml_parser.specs.declared.mark.Mark.TheVariants as m
-use Rattle.jesc_jml_parser.specs.Marks.{lexeme_mark}
-use Rattle.jesc_jml_parser.specs.Steps.{Parser, mark_at, same_mark}
-use Rattle.jesc_jml_parser.specs.Reading as spec
-use Rattle.jesc_jml_parser.specs.Reading.{Parsed, Start, at_first, behind_name, behind_bracket, opens, casts, allows_prefix, over, leaf, lone_name, expr}
-use Rattle.jesc_jml_parser.specs.Refining.{ok_is}
+use Rattle.jesc_jml_grammar.specs.declared.mark.Mark.{Mark}
+use Rattle.jesc_jml_grammar.specs.declared.mark.Mark.TheVariants as m
+use Rattle.jesc_jml_grammar.specs.Marks.{lexeme_mark}
+use Rattle.jesc_jml_grammar.specs.Steps.{Parser, mark_at, same_mark}
+use Rattle.jesc_jml_grammar.specs.Reading as spec
+use Rattle.jesc_jml_grammar.specs.Reading.{Parsed, Start, at_first, behind_name, behind_bracket, opens, casts, allows_prefix, over, leaf, lone_name, expr}
+use Rattle.jesc_jml_grammar.specs.Refining.{ok_is}
 use Rattle.jesc_jml_parser.specs.Edges.{goes_inside}
 use Rattle.jesc_jml_parser.specs.CompleteMarks.{sign_at, name_at, is_primitive_mark, primitive_at, took, took_sign, opens_first}
 use Rattle.jesc_jml_parser.specs.CompleteEdges.{cast_first}
@@ -31,7 +31,7 @@ unfolding same_mark
 name_or m.Name = inl refl
 name_or _ = inr refl
 
-bracket_or : (mark : Mark) → (mark ≡ m.RightBracket) ⊎ (same_mark mark m.RightBracket ≡ false)
+pub bracket_or : (mark : Mark) → (mark ≡ m.RightBracket) ⊎ (same_mark mark m.RightBracket ≡ false)
 unfolding same_mark
 bracket_or m.RightBracket = inl refl
 bracket_or _ = inr refl
@@ -180,7 +180,7 @@ index_read note limit (suc (suc room)) quantifiers least p q n e x (b ∷ ts) re
     let inner = expr note limit (suc (suc room)) in
     let started = bracket_start note limit (suc (suc room)) quantifiers 1 x b ts (omega arith) (omega arith) at next in
     elim (bracket_or (mark_at note ts)) [
-      | inl none ↦ absurd (cc (read, started, brackets_refused note limit room quantifiers x b ts none))
+      | inl none ↦ absurd (cc (read, started, brackets_refused note limit room quantifiers 1 x b ts none))
       | inr some ↦ bracket_is note limit (suc (suc room)) inner quantifiers least (sign note "(" p) x b ts next some
           ∙ grouped_is note limit (suc (suc room)) inner quantifiers p q (behind_bracket x b) (parsed n e) ts rest (sym started ∙ read)
     ]

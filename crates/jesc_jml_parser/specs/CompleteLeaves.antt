@@ -8,12 +8,12 @@ use Rattle.jesc_ast.specs.Words.{is_name, is_primitive, is_type_word}
 use Rattle.jesc_ast.specs.Trees.{Expression, number, truth, null, this, outcome, name, unary, call, new_object, new_array, old, fresh, Expressions, list_of, implied, super}
 use Rattle.jesc_ast.specs.Expressions.{span_of, Spells, IsPrefix, is_negation, is_plus_sign, is_not}
 use Rattle.jesc_ast.specs.Depth.{depth, nesting, greatest_depth}
-use Rattle.jesc_jml_parser.specs.declared.mark.Mark.{Mark}
-use Rattle.jesc_jml_parser.specs.declared.mark.Mark.TheVariants as m
-use Rattle.jesc_jml_parser.specs.Marks.{sign_mark, lexeme_mark}
-use Rattle.jesc_jml_parser.specs.Steps.{Parser, mark_at, same_mark, take_one}
-use Rattle.jesc_jml_parser.specs.Reading as spec
-use Rattle.jesc_jml_parser.specs.Reading.{Parsed, Listed, Start, at_first, allows_prefix, leaf, over, object_of, word_of, expr}
+use Rattle.jesc_jml_grammar.specs.declared.mark.Mark.{Mark}
+use Rattle.jesc_jml_grammar.specs.declared.mark.Mark.TheVariants as m
+use Rattle.jesc_jml_grammar.specs.Marks.{sign_mark, lexeme_mark}
+use Rattle.jesc_jml_grammar.specs.Steps.{Parser, mark_at, same_mark, take_one}
+use Rattle.jesc_jml_grammar.specs.Reading as spec
+use Rattle.jesc_jml_grammar.specs.Reading.{Parsed, Listed, Start, at_first, allows_prefix, leaf, over, object_of, word_of, expr}
 use Rattle.jesc_jml_parser.specs.CompleteMarks.{sign_at, word_at, number_at, backslash_at, name_at, is_primitive_mark, primitive_at, took, took_sign, took_name}
 use Rattle.jesc_jml_parser.specs.CompleteEdges.{positive}
 use Rattle.jesc_jml_parser.specs.CompleteSteps.{parsed, depth_positive, IsRead, Climbs, climbs_first}

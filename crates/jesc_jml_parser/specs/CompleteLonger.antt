@@ -7,12 +7,12 @@ use Rattle.jesc_ast.specs.Words.{is_name, is_type_word}
 use Rattle.jesc_ast.specs.Trees.{Expression, member, index, binary, choose, instance_of, call, Expressions, on}
 use Rattle.jesc_ast.specs.Expressions.{span_of, type_tree, Spells, SpellsType, is_plain_type, is_array_type, IsOperator, is_equivalence}
 use Rattle.jesc_ast.specs.Depth.{depth}
-use Rattle.jesc_jml_parser.specs.declared.mark.Mark.{Mark}
-use Rattle.jesc_jml_parser.specs.declared.mark.Mark.TheVariants as m
-use Rattle.jesc_jml_parser.specs.Marks.{sign_mark}
-use Rattle.jesc_jml_parser.specs.Steps.{Parser, mark_at, same_mark, take_one}
-use Rattle.jesc_jml_parser.specs.Reading as spec
-use Rattle.jesc_jml_parser.specs.Reading.{Parsed, Start, at_first, casts, binds, needs, right_of, is_type_mark, over, over_two, over_three, word_of, expr}
+use Rattle.jesc_jml_grammar.specs.declared.mark.Mark.{Mark}
+use Rattle.jesc_jml_grammar.specs.declared.mark.Mark.TheVariants as m
+use Rattle.jesc_jml_grammar.specs.Marks.{sign_mark}
+use Rattle.jesc_jml_grammar.specs.Steps.{Parser, mark_at, same_mark, take_one}
+use Rattle.jesc_jml_grammar.specs.Reading as spec
+use Rattle.jesc_jml_grammar.specs.Reading.{Parsed, Start, at_first, casts, binds, needs, right_of, over, over_two, over_three, word_of, expr}
 use Rattle.jesc_jml_parser.specs.Edges.{operator_mark}
 use Rattle.jesc_jml_parser.specs.CompleteMarks.{sign_at, word_at, type_word_at, took, took_sign, took_name}
 use Rattle.jesc_jml_parser.specs.CompleteEdges.{closed_edge, positive}

@@ -10,12 +10,12 @@ use Rattle.jesc_ast.specs.Lexemes.{Lexeme, chosen_word, chosen_sign, chosen_back
 use Rattle.jesc_ast.specs.Words.{is_name, is_primitive, is_type_word}
 use Rattle.jesc_ast.specs.Trees.{Expression}
 use Rattle.jesc_ast.specs.Expressions.{Spells, is_number, is_true, is_false, is_null, is_this, is_outcome, is_plain_name, is_paren, is_member, is_index, is_unary, is_binary, is_choose, is_cast, is_instance_of, is_own_call, is_super_call, is_call, is_new_object, is_new_array, is_old, is_fresh, is_quantifier, IsOperator, is_equivalence, is_inequivalence, is_implication, is_or, is_and, is_equal, is_unequal, is_less, is_less_equal, is_greater, is_greater_equal, is_plus, is_minus, is_times, is_quotient, is_remainder, IsPrefix, is_negation, is_plus_sign, is_not}
-use Rattle.jesc_jml_parser.specs.contracts.mark.Mark.{the_type}
-use Rattle.jesc_jml_parser.specs.declared.mark.Mark.{Mark}
-use Rattle.jesc_jml_parser.specs.declared.mark.Mark.TheVariants as m
-use Rattle.jesc_jml_parser.specs.Marks.{keyword_mark, backslash_mark, sign_mark, lexeme_mark}
-use Rattle.jesc_jml_parser.specs.Steps.{mark_at, same_mark, take_one, expect}
-use Rattle.jesc_jml_parser.specs.Reading.{opens, binds, is_type_mark}
+use Rattle.jesc_jml_grammar.specs.contracts.mark.Mark.{the_type}
+use Rattle.jesc_jml_grammar.specs.declared.mark.Mark.{Mark}
+use Rattle.jesc_jml_grammar.specs.declared.mark.Mark.TheVariants as m
+use Rattle.jesc_jml_grammar.specs.Marks.{keyword_mark, backslash_mark, sign_mark, lexeme_mark}
+use Rattle.jesc_jml_grammar.specs.Steps.{mark_at, same_mark, take_one, expect}
+use Rattle.jesc_jml_grammar.specs.Reading.{opens, binds, is_type_mark}
 use Rattle.jesc_jml_parser.specs.Edges.{strength, operator_mark}
 
 -- ---- the mark of a lexeme

@@ -8,10 +8,10 @@ use Rattle.jesc_ast.specs.Lexemes.{Lexeme, word, chosen_word, chosen_sign, chose
 use Rattle.jesc_ast.specs.Words.{is_name}
 use Rattle.jesc_ast.specs.Trees.{Expression, quantifier}
 use Rattle.jesc_ast.specs.Expressions.{Spells, IsBound, is_strict, is_weak, IsQuantifier, is_forall, is_exists}
-use Rattle.jesc_jml_parser.specs.declared.mark.Mark.TheVariants as m
-use Rattle.jesc_jml_parser.specs.Steps.{Parser, mark_at, same_mark, take_one, is_name_again}
-use Rattle.jesc_jml_parser.specs.Reading as spec
-use Rattle.jesc_jml_parser.specs.Reading.{Parsed, Start, at_first, casts, binds, needs, Bounds, quantifier_of, expr}
+use Rattle.jesc_jml_grammar.specs.declared.mark.Mark.TheVariants as m
+use Rattle.jesc_jml_grammar.specs.Steps.{Parser, mark_at, same_mark, take_one, is_name_again}
+use Rattle.jesc_jml_grammar.specs.Reading as spec
+use Rattle.jesc_jml_grammar.specs.Reading.{Parsed, Start, at_first, Bounds, quantifier_of, expr}
 use Rattle.jesc_jml_parser.specs.Edges.{goes_on}
 use Rattle.jesc_jml_parser.specs.CompleteMarks.{sign_at, word_at, backslash_at, name_at, took, took_sign, took_name}
 use Rattle.jesc_jml_parser.specs.CompleteEdges.{closed_by}

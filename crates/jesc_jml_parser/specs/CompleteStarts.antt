@@ -4,13 +4,13 @@ use Rattle.std.specs.Prelude.{nat_le}
 use Rattle.std.proofs.lemmas.Bool.{le-leb}
 use Rattle.jesc_ast.specs.Lexemes.{Lexeme}
 use Rattle.jesc_ast.specs.Trees.{name}
-use Rattle.jesc_jml_parser.specs.declared.fault.Fault.TheVariants.{Unexpected, Deep}
-use Rattle.jesc_jml_parser.specs.declared.mark.Mark.{Mark}
-use Rattle.jesc_jml_parser.specs.declared.mark.Mark.TheVariants as m
-use Rattle.jesc_jml_parser.specs.Marks.{lexeme_mark}
-use Rattle.jesc_jml_parser.specs.Steps.{Outcome, Parser, and_then, mark_at, same_mark}
-use Rattle.jesc_jml_parser.specs.Reading as spec
-use Rattle.jesc_jml_parser.specs.Reading.{Parsed, Start, at_first, behind_name, behind_bracket, grows, leaf, climb, expr}
+use Rattle.jesc_jml_grammar.specs.declared.fault.Fault.TheVariants.{Unexpected, Deep}
+use Rattle.jesc_jml_grammar.specs.declared.mark.Mark.{Mark}
+use Rattle.jesc_jml_grammar.specs.declared.mark.Mark.TheVariants as m
+use Rattle.jesc_jml_grammar.specs.Marks.{lexeme_mark}
+use Rattle.jesc_jml_grammar.specs.Steps.{Outcome, Parser, and_then, mark_at, same_mark}
+use Rattle.jesc_jml_grammar.specs.Reading as spec
+use Rattle.jesc_jml_grammar.specs.Reading.{Parsed, Start, at_first, behind_name, behind_bracket, grows, leaf, climb, expr}
 use Rattle.jesc_jml_parser.specs.CompleteMarks.{took}
 use Rattle.jesc_jml_parser.specs.CompleteEdges.{grows_true}
 use Rattle.jesc_jml_parser.specs.CompleteSteps.{ends}
@@ -70,11 +70,11 @@ none_refused : (note : Bool) (limit room quantifiers : ℕ) (ts : List Lexeme) �
 unfolding expr spec.first
 none_refused note limit room quantifiers ts at = rw at refl
 
-pub brackets_refused : (note : Bool) (limit room quantifiers : ℕ) (x p : Lexeme) (ts : List Lexeme) → mark_at note ts ≡ m.RightBracket
-    → expr note limit (suc (suc room)) quantifiers 1 (behind_bracket x p) ts ≡ Err (Unexpected (length ts))
+pub brackets_refused : (note : Bool) (limit room quantifiers least : ℕ) (x p : Lexeme) (ts : List Lexeme) → mark_at note ts ≡ m.RightBracket
+    → expr note limit (suc (suc room)) quantifiers least (behind_bracket x p) ts ≡ Err (Unexpected (length ts))
 unfolding expr
-brackets_refused note limit room quantifiers x p ts at =
-    ap (λ (z : Outcome Parsed). and_then z (climb note limit (suc room) (expr note limit (suc room)) quantifiers 1 (suc room)))
+brackets_refused note limit room quantifiers least x p ts at =
+    ap (λ (z : Outcome Parsed). and_then z (climb note limit (suc room) (expr note limit (suc room)) quantifiers least (suc room)))
     (index_refused note limit (suc room) (expr note limit (suc room)) quantifiers (leaf (name x.span x.text)) p ts (length ts) (none_refused note limit room quantifiers ts at))
 
 -- ---- the starts

@@ -6,10 +6,10 @@ use Rattle.jesc_ast.specs.Lexemes.{Lexeme}
 use Rattle.jesc_ast.specs.Trees.{Expression, number}
 use Rattle.jesc_ast.specs.Expressions.{Spells}
 use Rattle.jesc_ast.specs.Depth.{depth, nesting}
-use Rattle.jesc_jml_parser.specs.declared.mark.Mark.{Mark}
-use Rattle.jesc_jml_parser.specs.Marks.{lexeme_mark}
-use Rattle.jesc_jml_parser.specs.Steps.{Outcome, and_then, mark_at}
-use Rattle.jesc_jml_parser.specs.Reading.{Parsed, at_first, binds, needs, grows, first, longer_by, climb, expr}
+use Rattle.jesc_jml_grammar.specs.declared.mark.Mark.{Mark}
+use Rattle.jesc_jml_grammar.specs.Marks.{lexeme_mark}
+use Rattle.jesc_jml_grammar.specs.Steps.{Outcome, and_then, mark_at}
+use Rattle.jesc_jml_grammar.specs.Reading.{Parsed, at_first, binds, needs, grows, first, longer_by, climb, expr}
 use Rattle.jesc_jml_parser.specs.Edges.{strength, goes_inside, goes_on}
 use Rattle.jesc_jml_parser.specs.CompleteMarks.{strength_is}
 use Rattle.jesc_jml_parser.specs.CompleteEdges.{grows_true}
@@ -34,8 +34,16 @@ pub record Reaches (note : Bool) (limit room quantifiers least k : ℕ) (e : Exp
   pub enough : suc (suc room) ≤ turns + depth e
   pub is : expr note limit (suc room) quantifiers least at_first (u ++ rest) ≡ climb note limit room (expr note limit room) quantifiers least turns (parsed k e) rest
 
+-- what is read before all that goes on with it, wherever there is room for it
+pub record Starts (note : Bool) (limit quantifiers : ℕ) (e : Expression) (ts : List Lexeme) : Type 0 where
+  pub found : Parsed
+  pub left : List Lexeme
+  pub is : (room : ℕ) → depth e ≤ suc room → first note limit room (expr note limit room) quantifiers 11 ts ≡ Ok (found, left)
+
 -- The lexemes are read as the expression, and then as much more as goes on with it, where nothing goes on inside.
 pub record Climbs (note : Bool) (limit k : ℕ) (e : Expression) (u : List Lexeme) : Type 0 where
+  pub starts : 11 ≤ k → (quantifiers : ℕ) (rest : List Lexeme) → nesting e ≤ quantifiers → goes_inside 11 e (mark_at note rest) ≡ false
+      → Starts note limit quantifiers e (u ++ rest)
   pub to : (room quantifiers least : ℕ) (rest : List Lexeme) → least ≤ k → least ≤ 11 → depth e ≤ suc room → nesting e ≤ quantifiers → goes_inside least e (mark_at note rest) ≡ false
       → Reaches note limit room quantifiers least k e u rest
 
@@ -69,6 +77,7 @@ pub climbs_first : (note : Bool) (limit k : ℕ) (e : Expression) (u : List Lexe
     → Climbs note limit k e u
 unfolding expr
 climbs_first note limit k e u h = record {
+  starts = λ tight quantifiers rest nests inside. record { found = parsed k e; left = rest; is = λ room deep. h room quantifiers 11 rest tight (omega arith) deep nests inside };
   to = λ room quantifiers least rest le low deep nests inside. record {
     turns = suc room;
     enough = omega (arith, depth_positive e);
@@ -97,6 +106,11 @@ reaches_further note limit room quantifiers least k m a e u w rest mark at tight
       ∙ goes_further note limit room quantifiers least (parsed m a) (parsed k e) turns (w ++ rest) rest mark at (grows_true m mark least tight strong) (le-leb (depth a) room deep) step;
 }
 
+starts_further : (note : Bool) (limit room quantifiers : ℕ) (u w rest : List Lexeme) {p : Parsed} {left : List Lexeme}
+    → first note limit room (expr note limit room) quantifiers 11 (u ++ (w ++ rest)) ≡ Ok (p, left)
+    → first note limit room (expr note limit room) quantifiers 11 ((u ++ w) ++ rest) ≡ Ok (p, left)
+starts_further note limit room quantifiers u w rest is = ap (first note limit room (expr note limit room) quantifiers 11) (append_assoc u w rest) ∙ is
+
 -- what a rule behind a left operand reads
 pub climbs_further : (note : Bool) (limit k m : ℕ) (a e : Expression) (u : List Lexeme) (x : Lexeme) (v : List Lexeme) (mark : Mark) → Climbs note limit m a u
     → lexeme_mark note x ≡ mark → ((least : ℕ) → goes_inside least a mark ≡ false) → min 11 k ≤ binds mark → needs mark ≤ m → min 11 k ≤ m → depth a + 1 ≤ depth e → nesting a ≤ nesting e
@@ -105,6 +119,9 @@ pub climbs_further : (note : Bool) (limit k m : ℕ) (a e : Expression) (u : Lis
     → Climbs note limit k e (u ++ x ∷ v)
 unfolding mark_at
 climbs_further note limit k m a e u x v mark left at edge tight strong more longer nests step = record {
+  starts = λ some quantifiers rest flat inside.
+      let before = left.starts (omega arith) quantifiers (x ∷ (v ++ rest)) (omega arith) (ap (goes_inside 11 a) at ∙ edge 11) in
+      record { found = before.found; left = before.left; is = λ room deep. starts_further note limit room quantifiers u (x ∷ v) rest (before.is room (omega arith)) };
   to = λ room quantifiers least rest le low deep flat inside.
       let before = left.to room quantifiers least (x ∷ (v ++ rest)) (omega arith) low (omega arith) (omega arith) (ap (goes_inside least a) at ∙ edge least) in
       reaches_further note limit room quantifiers least k m a e u (x ∷ v) rest mark at (omega arith) strong (omega arith) longer

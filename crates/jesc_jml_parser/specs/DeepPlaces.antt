@@ -7,12 +7,12 @@ use Rattle.jesc_ast.specs.declared.word.TypeTree.{TypeTree}
 use Rattle.jesc_ast.specs.Lexemes.{Lexeme, join}
 use Rattle.jesc_ast.specs.Trees.{Receiver, implied, super, on, name, member, paren, cast, unary, binary, choose, index, instance_of, new_array, old, fresh}
 use Rattle.jesc_ast.specs.Expressions.{span_of, type_tree}
-use Rattle.jesc_jml_parser.specs.declared.mark.Mark.{Mark}
-use Rattle.jesc_jml_parser.specs.declared.mark.Mark.TheVariants as m
-use Rattle.jesc_jml_parser.specs.declared.fault.Fault.TheVariants.{Deep, Long}
-use Rattle.jesc_jml_parser.specs.Steps.{Outcome, Parser, and_then, refuse, too_deep, mark_at, same_mark, take_one, expect, is_name_again}
-use Rattle.jesc_jml_parser.specs.Reading as spec
-use Rattle.jesc_jml_parser.specs.Reading.{Parsed, Listed, Bounds, Start, at_first, behind_name, behind_bracket, opens_at, allows_prefix, binds, casts, grows, is_type_mark, is_quantifier_mark, is_bound_mark, right_of, with_last, nothing, leaf, word_of, over, over_two, over_three, lone_name, expr}
+use Rattle.jesc_jml_grammar.specs.declared.mark.Mark.{Mark}
+use Rattle.jesc_jml_grammar.specs.declared.mark.Mark.TheVariants as m
+use Rattle.jesc_jml_grammar.specs.declared.fault.Fault.TheVariants.{Deep, Long}
+use Rattle.jesc_jml_grammar.specs.Steps.{Outcome, Parser, and_then, refuse, too_deep, mark_at, same_mark, take_one, expect, is_name_again}
+use Rattle.jesc_jml_grammar.specs.Reading as spec
+use Rattle.jesc_jml_grammar.specs.Reading.{Parsed, Listed, Bounds, Start, at_first, behind_name, behind_bracket, opens_at, allows_prefix, binds, casts, grows, is_type_mark, is_quantifier_mark, is_bound_mark, right_of, with_last, nothing, leaf, word_of, over, over_two, over_three, lone_name, expr}
 use Rattle.jesc_jml_parser.specs.Places.{split_at}
 use Rattle.jesc_jml_parser.specs.Spending.{DeepAt, Spent, spent_bind, spent_if, spent_pure, spent_deep, spent_one, spent_expect, spent_shift}
 
@@ -85,7 +85,7 @@ module _ (note : Bool) (limit room : ℕ) (inner : ℕ → ℕ → Start → Par
       after_tree k 1 at_first _ (Listing c) c one ts (λ e mid c1 e1 l1.
       spent_more_arguments c limit (with_last nothing e) c1 (omega arith) (omega arith) (omega arith) mid)
 
-  spent_arguments : (c : ℕ) → 1 ≤ c → (ts : List Lexeme) → S (Listing c) c ts (spec.arguments note limit room inner k ts)
+  pub spent_arguments : (c : ℕ) → 1 ≤ c → (ts : List Lexeme) → S (Listing c) c ts (spec.arguments note limit room inner k ts)
   unfolding spec.arguments
   spent_arguments c one ts =
       either (Listing c) c (same_mark (mark_at note ts) m.RightParen) _ _ ts (done (Listing c) c nothing ts (omega arith, omega arith)) (spent_some_arguments c one ts)
@@ -94,7 +94,7 @@ module _ (note : Bool) (limit room : ℕ) (inner : ℕ → ℕ → Start → Par
   abbrev Grown : ℕ → ℕ → Parsed → Type 0
   Grown c c' p = (p.depth ≤ c') × (c < c')
 
-  spent_called : (first : Span) (r : Receiver) (depth : ℕ) (x : Lexeme) (c : ℕ) → depth ≤ c → (ts : List Lexeme)
+  pub spent_called : (first : Span) (r : Receiver) (depth : ℕ) (x : Lexeme) (c : ℕ) → depth ≤ c → (ts : List Lexeme)
       → S (Grown c) c ts (spec.called note limit room inner k first r depth x ts)
   unfolding spec.called
   spent_called first r depth x c low ts =
@@ -111,7 +111,7 @@ module _ (note : Bool) (limit room : ℕ) (inner : ℕ → ℕ → Start → Par
   abbrev Later : {A : Type 0} → ℕ → ℕ → A → Type 0
   Later c c' x = c ≤ c'
 
-  spent_type_behind : (x : Lexeme) (c : ℕ) (ts : List Lexeme) → S (Later c) c ts (spec.type_behind note limit room inner k x ts)
+  pub spent_type_behind : (x : Lexeme) (c : ℕ) (ts : List Lexeme) → S (Later c) c ts (spec.type_behind note limit room inner k x ts)
   unfolding spec.type_behind
   spent_type_behind x c ts =
       either (Later c) c (same_mark (mark_at note ts) m.LeftBracket) _ _ ts
@@ -124,7 +124,7 @@ module _ (note : Bool) (limit room : ℕ) (inner : ℕ → ℕ → Start → Par
   unfolding spec.type_word
   spent_type_word c ts = either (λ c' x. c' ≡ c + 1) c (is_type_mark (mark_at note ts)) _ _ ts (spent_one note limit room c ts) tt
 
-  spent_type : (c : ℕ) (ts : List Lexeme) → S (Later c) c ts (spec.type_ note limit room inner k ts)
+  pub spent_type : (c : ℕ) (ts : List Lexeme) → S (Later c) c ts (spec.type_ note limit room inner k ts)
   unfolding spec.type_
   spent_type c ts =
       after (λ c' x. c' ≡ c + 1) _ (Later c) c ts (spec.type_word note limit room inner k ts) (spent_type_word c ts) (λ x mid c1 e1.
@@ -435,7 +435,7 @@ module _ (note : Bool) (limit room : ℕ) (inner : ℕ → ℕ → Start → Par
   spent_longer_by a mark c low ts = spent_operated a mark c low ts
 
   -- turns and lexemes together are enough for the room
-  spent_climb : (least n : ℕ) (a : Parsed) (c : ℕ) → a.depth ≤ c → room ≤ n + c → (ts : List Lexeme) → S Shallow c ts (spec.climb note limit room inner k least n a ts)
+  pub spent_climb : (least n : ℕ) (a : Parsed) (c : ℕ) → a.depth ≤ c → room ≤ n + c → (ts : List Lexeme) → S Shallow c ts (spec.climb note limit room inner k least n a ts)
   unfolding spec.climb
   spent_climb least zero a c low enough ts = spent_deep note limit room Shallow c ts (inr (omega arith))
   spent_climb least (suc n) a c low enough ts =

@@ -1,11 +1,11 @@
 -- How tightly a tree holds together, and which marks go on at its right edge.
 use Rattle.std.specs.Prelude.{ℕ, Bool, true, false, ◌&&◌, ◌||◌, not, List}
-use Rattle.jesc_ast.specs.Trees.{Expression, number, truth, null, this, outcome, name, paren, member, index, unary, binary, choose, cast, instance_of, call, new_object, new_array, old, fresh, quantifier}
-use Rattle.jesc_jml_parser.specs.declared.mark.Mark.{Mark}
-use Rattle.jesc_jml_parser.specs.declared.mark.Mark.TheVariants as m
-use Rattle.jesc_jml_parser.specs.Marks.{sign_mark}
-use Rattle.jesc_jml_parser.specs.Steps.{same_mark}
-use Rattle.jesc_jml_parser.specs.Reading.{binds, right_of, grows, casts, allows_prefix}
+use Rattle.jesc_ast.specs.Trees.{Expression, name, paren, member, unary, binary, choose, cast, instance_of, new_array}
+use Rattle.jesc_jml_grammar.specs.declared.mark.Mark.{Mark}
+use Rattle.jesc_jml_grammar.specs.declared.mark.Mark.TheVariants as m
+use Rattle.jesc_jml_grammar.specs.Marks.{sign_mark}
+use Rattle.jesc_jml_grammar.specs.Steps.{same_mark}
+use Rattle.jesc_jml_grammar.specs.Reading.{binds, right_of, grows, casts, allows_prefix}
 
 -- the mark of an operator's text
 abbrev pub operator_mark : List ℕ → Mark

@@ -4,12 +4,12 @@ use Rattle.jesc_lexer.specs.declared.token.Tokens.{Tokens}
 use Rattle.jesc_ast.specs.declared.expr.Expr.{Expr}
 use Rattle.jesc_ast.specs.Lexemes.{Lexeme, lexemes}
 use Rattle.jesc_ast.specs.Trees.{Expression, view}
-use Rattle.jesc_jml_parser.specs.declared.fault.ParseError.{ParseError}
-use Rattle.jesc_jml_parser.specs.declared.fault.ParseError.TheVariants as errors
+use Rattle.jesc_jml_grammar.specs.declared.fault.ParseError.{ParseError}
+use Rattle.jesc_jml_grammar.specs.declared.fault.ParseError.TheVariants as errors
 use Rattle.jesc_jml_parser.specs.declared.error.SyntaxError.{SyntaxError}
 use Rattle.jesc_jml_parser.specs.declared.error.SyntaxError.TheVariants.{Token, LeftOut, Deep, OutOfMemory}
-use Rattle.jesc_jml_parser.specs.Steps.{Outcome}
-use Rattle.jesc_jml_parser.specs.Reading.{Parsed, expr, at_first, turns}
+use Rattle.jesc_jml_grammar.specs.Steps.{Outcome}
+use Rattle.jesc_jml_grammar.specs.Reading.{Parsed, expr, at_first, turns}
 use Rattle.jesc_jml_parser.specs.Answers.{IsLongest, IsRefused, IsStuck}
 use Rattle.jesc_jml_parser.specs.Refusals.{IsRefusal}
 

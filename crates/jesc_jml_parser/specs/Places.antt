@@ -2,7 +2,7 @@
 use Rattle.std.proofs.Common.{◌≡◌, ℕ, zero, suc, ◌+◌, ◌-◌, ◌≤◌, ◌<◌, List, [], ◌∷◌, ◌++◌, length, take, drop, refl, sym, ap, append_assoc, arith, add-one}
 use Rattle.std.proofs.lemmas.List.{length-append, take_at, drop_at}
 use Rattle.jesc_ast.specs.Lexemes.{Lexeme}
-use Rattle.jesc_jml_parser.specs.Refining.{head}
+use Rattle.jesc_jml_grammar.specs.Refining.{head}
 
 split_parts : (u v : List Lexeme) (n : ℕ) → n ≡ length v
     → (take (length (u ++ v) - n) (u ++ v) ≡ u) × (drop (length (u ++ v) - n) (u ++ v) ≡ v) × (n ≤ length (u ++ v))

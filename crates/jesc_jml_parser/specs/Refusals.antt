@@ -4,12 +4,12 @@ use Rattle.jesc_text.specs.Places.{line_at, column_at}
 use Rattle.jesc_text.specs.declared.place.Place.{Place}
 use Rattle.jesc_lexer.specs.declared.token.Token.{Token}
 use Rattle.jesc_lexer.specs.declared.token.Tokens.{Tokens}
-use Rattle.jesc_ast.specs.Lexemes.{Lexeme, lexeme_of}
+use Rattle.jesc_ast.specs.Lexemes.{lexeme_of}
 use Rattle.jesc_ast.specs.LeftOut.{is_left_out}
 use Rattle.jesc_ast.specs.Words.{is_one_of}
-use Rattle.jesc_jml_parser.specs.declared.fault.Fault.TheVariants as faults
-use Rattle.jesc_jml_parser.specs.declared.fault.ParseError.{ParseError}
-use Rattle.jesc_jml_parser.specs.declared.fault.ParseError.TheVariants as errors
+use Rattle.jesc_jml_grammar.specs.declared.fault.Fault.TheVariants as faults
+use Rattle.jesc_jml_grammar.specs.declared.fault.ParseError.{ParseError}
+use Rattle.jesc_jml_grammar.specs.declared.fault.ParseError.TheVariants as errors
 use Rattle.jesc_jml_parser.specs.declared.error.SyntaxError.{SyntaxError}
 use Rattle.jesc_jml_parser.specs.declared.error.SyntaxError.TheVariants.{Token as UnexpectedToken, LeftOut, Deep, OutOfMemory}
 

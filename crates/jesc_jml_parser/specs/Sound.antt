@@ -3,8 +3,8 @@ use Rattle.std.proofs.Common.{◌≡◌, ℕ, zero, suc, ◌≤◌, ◌<◌, Boo
 use Rattle.jesc_ast.specs.Lexemes.{Lexeme}
 use Rattle.jesc_ast.specs.Depth.{depth, nesting}
 use Rattle.jesc_ast.specs.Expressions.{Spells}
-use Rattle.jesc_jml_parser.specs.Steps.{mark_at, refuse, too_deep}
-use Rattle.jesc_jml_parser.specs.Reading.{Parsed, Start, at_first, behind_name, behind_bracket, opens_at, no_room, expr}
+use Rattle.jesc_jml_grammar.specs.Steps.{mark_at, refuse, too_deep}
+use Rattle.jesc_jml_grammar.specs.Reading.{Parsed, Start, at_first, behind_name, behind_bracket, opens_at, no_room, expr}
 use Rattle.jesc_jml_parser.specs.Edges.{strength}
 use Rattle.jesc_jml_parser.specs.SoundSteps.{Gives, gives_if, gives_ok, start_lexemes, IsStart, Taken}
 use Rattle.jesc_jml_parser.specs.SoundLonger.{begun_takes}

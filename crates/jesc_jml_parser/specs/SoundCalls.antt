@@ -5,11 +5,11 @@ use Rattle.jesc_ast.specs.declared.word.TypeTree.{TypeTree}
 use Rattle.jesc_ast.specs.Lexemes.{Lexeme}
 use Rattle.jesc_ast.specs.Trees.{Receiver}
 use Rattle.jesc_ast.specs.Expressions.{SpellsType}
-use Rattle.jesc_jml_parser.specs.declared.mark.Mark.TheVariants as m
-use Rattle.jesc_jml_parser.specs.Marks.{lexeme_mark}
-use Rattle.jesc_jml_parser.specs.Steps.{Parser, mark_at, take_one, same_mark, expect}
-use Rattle.jesc_jml_parser.specs.Reading as spec
-use Rattle.jesc_jml_parser.specs.Reading.{Parsed, Listed, Start, at_first, is_type_mark, with_last, nothing, call_of}
+use Rattle.jesc_jml_grammar.specs.declared.mark.Mark.TheVariants as m
+use Rattle.jesc_jml_grammar.specs.Marks.{lexeme_mark}
+use Rattle.jesc_jml_grammar.specs.Steps.{Parser, mark_at, take_one, same_mark, expect}
+use Rattle.jesc_jml_grammar.specs.Reading as spec
+use Rattle.jesc_jml_grammar.specs.Reading.{Parsed, Listed, Start, at_first, is_type_mark, with_last, nothing, call_of}
 use Rattle.jesc_jml_parser.specs.SoundLexemes.{Typed, typed}
 use Rattle.jesc_jml_parser.specs.SoundPieces.{AreSpelled, plain_type, array_type}
 use Rattle.jesc_jml_parser.specs.SoundLists.{AreSome, some_piece, none_piece, first_piece, next_piece}

@@ -5,12 +5,12 @@ use Rattle.std.specs.Prelude.{nat_lt}
 use Rattle.jesc_ast.specs.Lexemes.{Lexeme}
 use Rattle.jesc_ast.specs.Trees.{implied, super}
 use Rattle.jesc_ast.specs.Depth.{depth, nesting}
-use Rattle.jesc_jml_parser.specs.declared.mark.Mark.{Mark}
-use Rattle.jesc_jml_parser.specs.declared.mark.Mark.TheVariants as m
-use Rattle.jesc_jml_parser.specs.Marks.{lexeme_mark}
-use Rattle.jesc_jml_parser.specs.Steps.{Parser, mark_at, take_one, same_mark, expect}
-use Rattle.jesc_jml_parser.specs.Reading as spec
-use Rattle.jesc_jml_parser.specs.Reading.{Parsed, Start, at_first, allows_prefix, is_prefix_mark, is_type_mark, literal_of}
+use Rattle.jesc_jml_grammar.specs.declared.mark.Mark.{Mark}
+use Rattle.jesc_jml_grammar.specs.declared.mark.Mark.TheVariants as m
+use Rattle.jesc_jml_grammar.specs.Marks.{lexeme_mark}
+use Rattle.jesc_jml_grammar.specs.Steps.{Parser, mark_at, take_one, same_mark, expect}
+use Rattle.jesc_jml_grammar.specs.Reading as spec
+use Rattle.jesc_jml_grammar.specs.Reading.{Parsed, Start, at_first, allows_prefix, is_prefix_mark, is_type_mark, literal_of}
 use Rattle.jesc_jml_parser.specs.Edges.{strength}
 use Rattle.jesc_jml_parser.specs.SoundLexemes.{prefixes, Typed, typed, is_literal_mark, literal_spelled}
 use Rattle.jesc_jml_parser.specs.SoundPieces.{name_piece, unary_piece, own_call_piece, super_call_piece, object_piece, array_piece, old_piece, fresh_piece}

@@ -7,12 +7,12 @@ use Rattle.jesc_ast.specs.Lexemes.{Lexeme, join}
 use Rattle.jesc_ast.specs.Trees.{name}
 use Rattle.jesc_ast.specs.Words.{is_primitive}
 use Rattle.jesc_ast.specs.Expressions.{type_tree, SpellsType, is_cast_before, begins_cast}
-use Rattle.jesc_jml_parser.specs.declared.mark.Mark.{Mark}
-use Rattle.jesc_jml_parser.specs.declared.mark.Mark.TheVariants as m
-use Rattle.jesc_jml_parser.specs.Marks.{lexeme_mark}
-use Rattle.jesc_jml_parser.specs.Steps.{Parser, mark_at, same_mark, expect}
-use Rattle.jesc_jml_parser.specs.Reading as spec
-use Rattle.jesc_jml_parser.specs.Reading.{Parsed, Bounds, Start, at_first, behind_name, behind_bracket, casts, allows_prefix, is_quantifier_mark, is_bound_mark, leaf}
+use Rattle.jesc_jml_grammar.specs.declared.mark.Mark.{Mark}
+use Rattle.jesc_jml_grammar.specs.declared.mark.Mark.TheVariants as m
+use Rattle.jesc_jml_grammar.specs.Marks.{lexeme_mark}
+use Rattle.jesc_jml_grammar.specs.Steps.{Parser, mark_at, same_mark, expect}
+use Rattle.jesc_jml_grammar.specs.Reading as spec
+use Rattle.jesc_jml_grammar.specs.Reading.{Parsed, Start, at_first, behind_name, behind_bracket, casts, allows_prefix, leaf}
 use Rattle.jesc_jml_parser.specs.Lengths.{depth_below}
 use Rattle.jesc_jml_parser.specs.SoundLexemes.{Typed, typed, is_primitive_mark, primitive, casting}
 use Rattle.jesc_jml_parser.specs.SoundPieces.{IsSpelled, depth_some, name_piece, paren_piece, cast_piece, plain_type, array_type}

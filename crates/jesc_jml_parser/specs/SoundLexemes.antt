@@ -6,11 +6,11 @@ use Rattle.std.specs.Prelude.{IsTrue, bytes_eq, codes, ◌||◌, not}
 use Rattle.jesc_ast.specs.Lexemes.{Lexeme, chosen_word, chosen_backslash, chosen_sign}
 use Rattle.jesc_ast.specs.Words.{is_name, is_primitive, is_type_word}
 use Rattle.jesc_ast.specs.Expressions.{IsOperator, is_equivalence, is_inequivalence, is_implication, is_or, is_and, is_equal, is_unequal, is_less, is_less_equal, is_greater, is_greater_equal, is_plus, is_minus, is_times, is_quotient, is_remainder, IsPrefix, is_negation, is_plus_sign, is_not, IsBound, is_strict, is_weak, IsQuantifier, is_forall, is_exists, is_cast_by, Spells, is_number, is_true, is_false, is_null, is_this, is_outcome}
-use Rattle.jesc_jml_parser.specs.declared.mark.Mark.{Mark}
-use Rattle.jesc_jml_parser.specs.declared.mark.Mark.TheVariants as m
-use Rattle.jesc_jml_parser.specs.Marks.{lexeme_mark}
-use Rattle.jesc_jml_parser.specs.Steps.{Parser, same_mark, is_name_again}
-use Rattle.jesc_jml_parser.specs.Reading.{Parsed, Start, casts, binds, needs, right_of, is_prefix_mark, is_type_mark, is_quantifier_mark, is_bound_mark, literal_of}
+use Rattle.jesc_jml_grammar.specs.declared.mark.Mark.{Mark}
+use Rattle.jesc_jml_grammar.specs.declared.mark.Mark.TheVariants as m
+use Rattle.jesc_jml_grammar.specs.Marks.{lexeme_mark}
+use Rattle.jesc_jml_grammar.specs.Steps.{Parser, same_mark, is_name_again}
+use Rattle.jesc_jml_grammar.specs.Reading.{Parsed, Start, casts, binds, needs, right_of, is_prefix_mark, is_type_mark, is_quantifier_mark, is_bound_mark, literal_of}
 use Rattle.jesc_jml_parser.specs.Edges.{operator_mark}
 use Rattle.jesc_jml_parser.specs.SoundMarks.{marked, same_is}
 

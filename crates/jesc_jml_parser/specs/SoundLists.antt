@@ -5,9 +5,9 @@ use Rattle.jesc_ast.specs.Lexemes.{Lexeme, join, chosen_word}
 use Rattle.jesc_ast.specs.Trees.{Expression, quantifier, no_expressions, more_expressions, expressions_of}
 use Rattle.jesc_ast.specs.Depth.{depth, nesting, greatest_depth, greatest_nesting}
 use Rattle.jesc_ast.specs.Expressions.{Spells, is_quantifier, no_arguments, some_arguments, SpellsMore, no_more, one_more}
-use Rattle.jesc_jml_parser.specs.declared.mark.Mark.TheVariants as m
-use Rattle.jesc_jml_parser.specs.Marks.{lexeme_mark}
-use Rattle.jesc_jml_parser.specs.Reading.{Parsed, Listed, Bounds, word_of, with_last, nothing, quantifier_of}
+use Rattle.jesc_jml_grammar.specs.declared.mark.Mark.TheVariants as m
+use Rattle.jesc_jml_grammar.specs.Marks.{lexeme_mark}
+use Rattle.jesc_jml_grammar.specs.Reading.{Parsed, Listed, Bounds, word_of, with_last, nothing, quantifier_of}
 use Rattle.jesc_jml_parser.specs.SoundMarks.{marked}
 use Rattle.jesc_jml_parser.specs.SoundLexemes.{Quantifies}
 use Rattle.jesc_jml_parser.specs.SoundPieces.{IsSpelled, AreSpelled, AreBounds}

@@ -5,12 +5,12 @@ use Rattle.std.specs.Prelude.{nat_le}
 use Rattle.jesc_ast.specs.Lexemes.{Lexeme}
 use Rattle.jesc_ast.specs.Trees.{name, on}
 use Rattle.jesc_ast.specs.Expressions.{span_of}
-use Rattle.jesc_jml_parser.specs.declared.mark.Mark.{Mark}
-use Rattle.jesc_jml_parser.specs.declared.mark.Mark.TheVariants as m
-use Rattle.jesc_jml_parser.specs.Marks.{lexeme_mark}
-use Rattle.jesc_jml_parser.specs.Steps.{Parser, mark_at, take_one, same_mark, expect}
-use Rattle.jesc_jml_parser.specs.Reading as spec
-use Rattle.jesc_jml_parser.specs.Reading.{Parsed, Start, at_first, behind_name, behind_bracket, binds, needs, right_of, grows, leaf}
+use Rattle.jesc_jml_grammar.specs.declared.mark.Mark.{Mark}
+use Rattle.jesc_jml_grammar.specs.declared.mark.Mark.TheVariants as m
+use Rattle.jesc_jml_grammar.specs.Marks.{lexeme_mark}
+use Rattle.jesc_jml_grammar.specs.Steps.{Parser, mark_at, take_one, same_mark, expect}
+use Rattle.jesc_jml_grammar.specs.Reading as spec
+use Rattle.jesc_jml_grammar.specs.Reading.{Parsed, Start, at_first, behind_name, behind_bracket, binds, needs, right_of, grows, leaf}
 use Rattle.jesc_jml_parser.specs.SoundLexemes.{is_operator_mark, operates}
 use Rattle.jesc_jml_parser.specs.SoundPieces.{IsSpelled, name_piece, member_piece, index_piece, binary_piece, choose_piece, instance_piece, call_piece}
 use Rattle.jesc_jml_parser.specs.SoundSteps.{Gives, gives_bind, gives_if, gives_so, took_one, took, start_lexemes, IsStart, Taken, TakesWhole}
@@ -126,29 +126,29 @@ module _ (note : Bool) (limit room : ℕ) (inner : ℕ → ℕ → Start → Par
         (indexed_behind_takes least a u p (wider note room k u a before) left bracket.mark mid)
         (joined note (suc room) k least u ts mid p bracket.at))
 
-    longer_by_takes : 0 < least → (mark : Mark) (ts : List Lexeme) → mark_at note ts ≡ mark → least ≤ binds mark → needs mark ≤ a.strength
+    longer_by_takes : (mark : Mark) → 0 < binds mark → (ts : List Lexeme) → mark_at note ts ≡ mark → least ≤ binds mark → needs mark ≤ a.strength
         → Gives (spec.longer_by note limit room inner k a mark ts) (Taken note (suc room) k least u ts)
-    longer_by_takes some m.Question ts e le left = chosen_takes ts le left
-    longer_by_takes some m.InstanceOf ts e le left = tested_takes ts le left
-    longer_by_takes some m.Dot ts e le left = dotted_takes ts left
-    longer_by_takes some m.LeftBracket ts e le left = indexed_takes ts left
-    longer_by_takes some m.Plus ts e le left = operated_takes m.Plus ts e refl le left
-    longer_by_takes some m.Minus ts e le left = operated_takes m.Minus ts e refl le left
-    longer_by_takes some m.Times ts e le left = operated_takes m.Times ts e refl le left
-    longer_by_takes some m.Quotient ts e le left = operated_takes m.Quotient ts e refl le left
-    longer_by_takes some m.Remainder ts e le left = operated_takes m.Remainder ts e refl le left
-    longer_by_takes some m.Less ts e le left = operated_takes m.Less ts e refl le left
-    longer_by_takes some m.LessEqual ts e le left = operated_takes m.LessEqual ts e refl le left
-    longer_by_takes some m.Greater ts e le left = operated_takes m.Greater ts e refl le left
-    longer_by_takes some m.GreaterEqual ts e le left = operated_takes m.GreaterEqual ts e refl le left
-    longer_by_takes some m.Equal ts e le left = operated_takes m.Equal ts e refl le left
-    longer_by_takes some m.Unequal ts e le left = operated_takes m.Unequal ts e refl le left
-    longer_by_takes some m.And ts e le left = operated_takes m.And ts e refl le left
-    longer_by_takes some m.Or ts e le left = operated_takes m.Or ts e refl le left
-    longer_by_takes some m.Implies ts e le left = operated_takes m.Implies ts e refl le left
-    longer_by_takes some m.Iff ts e le left = operated_takes m.Iff ts e refl le left
-    longer_by_takes some m.NotIff ts e le left = operated_takes m.NotIff ts e refl le left
-    longer_by_takes some _ ts e le left = absurd (omega arith)
+    longer_by_takes m.Question some ts e le left = chosen_takes ts le left
+    longer_by_takes m.InstanceOf some ts e le left = tested_takes ts le left
+    longer_by_takes m.Dot some ts e le left = dotted_takes ts left
+    longer_by_takes m.LeftBracket some ts e le left = indexed_takes ts left
+    longer_by_takes m.Plus some ts e le left = operated_takes m.Plus ts e refl le left
+    longer_by_takes m.Minus some ts e le left = operated_takes m.Minus ts e refl le left
+    longer_by_takes m.Times some ts e le left = operated_takes m.Times ts e refl le left
+    longer_by_takes m.Quotient some ts e le left = operated_takes m.Quotient ts e refl le left
+    longer_by_takes m.Remainder some ts e le left = operated_takes m.Remainder ts e refl le left
+    longer_by_takes m.Less some ts e le left = operated_takes m.Less ts e refl le left
+    longer_by_takes m.LessEqual some ts e le left = operated_takes m.LessEqual ts e refl le left
+    longer_by_takes m.Greater some ts e le left = operated_takes m.Greater ts e refl le left
+    longer_by_takes m.GreaterEqual some ts e le left = operated_takes m.GreaterEqual ts e refl le left
+    longer_by_takes m.Equal some ts e le left = operated_takes m.Equal ts e refl le left
+    longer_by_takes m.Unequal some ts e le left = operated_takes m.Unequal ts e refl le left
+    longer_by_takes m.And some ts e le left = operated_takes m.And ts e refl le left
+    longer_by_takes m.Or some ts e le left = operated_takes m.Or ts e refl le left
+    longer_by_takes m.Implies some ts e le left = operated_takes m.Implies ts e refl le left
+    longer_by_takes m.Iff some ts e le left = operated_takes m.Iff ts e refl le left
+    longer_by_takes m.NotIff some ts e le left = operated_takes m.NotIff ts e refl le left
+    longer_by_takes _ some ts e le left = absurd (omega arith)
 
   -- ---- the turns
 
@@ -162,20 +162,22 @@ module _ (note : Bool) (limit room : ℕ) (inner : ℕ → ℕ → Start → Par
     tight = h.tight;
   }
 
-  climb_takes : (least : ℕ) → 0 < least → (before all : List Lexeme) (n : ℕ) (a : Parsed) (ts : List Lexeme) → Taken note (suc room) k least before all a ts
-      → Gives (spec.climb note limit room inner k least n a ts) (Taken note (suc room) k least before all)
+  -- what stands at the top when the turns begin may bind less tightly than what they add
+  pub climb_takes : (least bound : ℕ) → 0 < least → bound ≤ least → (before all : List Lexeme) (n : ℕ) (a : Parsed) (ts : List Lexeme)
+      → Taken note (suc room) k bound before all a ts → Gives (spec.climb note limit room inner k least n a ts) (Taken note (suc room) k bound before all)
   unfolding spec.climb
-  climb_takes least some before all zero a ts t = tt
-  climb_takes least some before all (suc n) a ts t =
-      gives_if (grows a.strength (mark_at note ts) least) _ _ (Taken note (suc room) k least before all) ts
+  climb_takes least bound some le before all zero a ts t = tt
+  climb_takes least bound some le before all (suc n) a ts t =
+      gives_if (grows a.strength (mark_at note ts) least) _ _ (Taken note (suc room) k bound before all) ts
       (λ e.
       let both = and_parts (nat_le least (binds (mark_at note ts))) (nat_le (needs (mark_at note ts)) a.strength) e in
-      gives_if (nat_le a.depth room) _ _ (Taken note (suc room) k least before all) ts
+      let tight : least ≤ binds (mark_at note ts) = leb-true least (binds (mark_at note ts)) both.0 in
+      gives_if (nat_le a.depth room) _ _ (Taken note (suc room) k bound before all) ts
       (λ f.
       gives_bind _ _ (spec.longer_by note limit room inner k a (mark_at note ts) ts)
-      (longer_by_takes least a (before ++ t.taken) (within note room (suc room) k (before ++ t.taken) a (leb-true a.depth room f) t.is) some (mark_at note ts) ts refl
-      (leb-true least (binds (mark_at note ts)) both.0) (leb-true (needs (mark_at note ts)) a.strength both.1))
-      (λ b rest h. climb_takes least some before all n b rest (further least before all ts a b rest t h)))
+      (longer_by_takes bound a (before ++ t.taken) (within note room (suc room) k (before ++ t.taken) a (leb-true a.depth room f) t.is) (mark_at note ts) (omega arith) ts refl
+      (omega arith) (leb-true (needs (mark_at note ts)) a.strength both.1))
+      (λ b rest h. climb_takes least bound some le before all n b rest (further bound before all ts a b rest t h)))
       (λ f. tt))
       (λ e. t)
 
@@ -183,11 +185,11 @@ module _ (note : Bool) (limit room : ℕ) (inner : ℕ → ℕ → Start → Par
       → Gives (spec.begun note limit room inner k least start ts) (Taken note (suc room) k least (start_lexemes start) ts)
   begun_takes least some at_first known ts =
       gives_bind _ _ (spec.first note limit room inner k least ts) (first_takes note limit room inner reads k least ts)
-      (λ a rest t. climb_takes least some [] ts (suc room) a rest t)
+      (λ a rest t. climb_takes least least some (omega arith) [] ts (suc room) a rest t)
   begun_takes least some (behind_name x) known ts =
       gives_bind _ _ (spec.after_name note limit room inner k x ts) (after_name_takes note limit room inner reads k least x known ts)
-      (λ a rest t. climb_takes least some (x ∷ []) ts (suc room) a rest t)
+      (λ a rest t. climb_takes least least some (omega arith) (x ∷ []) ts (suc room) a rest t)
   begun_takes least some (behind_bracket x p) known ts =
       gives_bind _ _ (spec.indexed_behind note limit room inner k (leaf (name x.span x.text)) p ts)
       (indexed_behind_takes least (leaf (name x.span x.text)) (x ∷ []) p (name_piece note (max room 1) k x known.0 (omega arith)) (omega arith) known.1 ts)
-      (λ a rest t. climb_takes least some (x ∷ p ∷ []) ts room a rest t)
+      (λ a rest t. climb_takes least least some (omega arith) (x ∷ p ∷ []) ts room a rest t)

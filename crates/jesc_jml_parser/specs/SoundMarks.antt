@@ -8,11 +8,11 @@ use Rattle.jesc_lexer.specs.declared.token.TokenKind.{TokenKind}
 use Rattle.jesc_lexer.specs.declared.token.TokenKind.TheVariants as kinds
 use Rattle.jesc_ast.specs.Lexemes.{Lexeme, word, backslash, sign, chosen_word, chosen_backslash, chosen_sign, number_of}
 use Rattle.jesc_ast.specs.Words.{is_name}
-use Rattle.jesc_jml_parser.specs.contracts.mark.Mark.{the_type}
-use Rattle.jesc_jml_parser.specs.declared.mark.Mark.{Mark}
-use Rattle.jesc_jml_parser.specs.declared.mark.Mark.TheVariants as m
-use Rattle.jesc_jml_parser.specs.Marks.{spelling, mark_among, keyword_mark, backslash_mark, note_sign_mark, other_sign_mark, sign_mark, mark_of, lexeme_mark}
-use Rattle.jesc_jml_parser.specs.Steps.{same_mark}
+use Rattle.jesc_jml_grammar.specs.contracts.mark.Mark.{the_type}
+use Rattle.jesc_jml_grammar.specs.declared.mark.Mark.{Mark}
+use Rattle.jesc_jml_grammar.specs.declared.mark.Mark.TheVariants as m
+use Rattle.jesc_jml_grammar.specs.Marks.{spelling, mark_among, keyword_mark, backslash_mark, note_sign_mark, other_sign_mark, sign_mark, mark_of, lexeme_mark}
+use Rattle.jesc_jml_grammar.specs.Steps.{same_mark}
 
 -- the lexemes of a mark, of the side that `note` tells
 abbrev pub IsMarked : Bool → Mark → Lexeme → Type 0

@@ -6,10 +6,10 @@ use Rattle.jesc_ast.specs.Lexemes.{Lexeme, join}
 use Rattle.jesc_ast.specs.Trees.{Expression, number, truth, null, this, outcome, name, paren, member, index, unary, binary, choose, cast, instance_of, call, new_object, new_array, old, fresh, quantifier, implied, super, on, expressions_of}
 use Rattle.jesc_ast.specs.Depth.{depth, nesting, greatest_depth, greatest_nesting}
 use Rattle.jesc_ast.specs.Expressions.{span_of, type_tree, SpellsType, is_plain_type, is_array_type, is_cast_before, Spells, is_plain_name, is_paren, is_member, is_index, is_unary, is_binary, is_choose, is_cast, is_instance_of, is_own_call, is_super_call, is_call, is_new_object, is_new_array, is_old, is_fresh, SpellsArguments}
-use Rattle.jesc_jml_parser.specs.declared.mark.Mark.{Mark}
-use Rattle.jesc_jml_parser.specs.declared.mark.Mark.TheVariants as m
-use Rattle.jesc_jml_parser.specs.Marks.{lexeme_mark}
-use Rattle.jesc_jml_parser.specs.Reading.{binds, needs, right_of, Parsed, Listed, Bounds, word_of, leaf, over, over_two, over_three, call_of, object_of}
+use Rattle.jesc_jml_grammar.specs.declared.mark.Mark.{Mark}
+use Rattle.jesc_jml_grammar.specs.declared.mark.Mark.TheVariants as m
+use Rattle.jesc_jml_grammar.specs.Marks.{lexeme_mark}
+use Rattle.jesc_jml_grammar.specs.Reading.{binds, needs, right_of, Parsed, Listed, Bounds, word_of, leaf, over, over_two, over_three, call_of, object_of}
 use Rattle.jesc_jml_parser.specs.Edges.{strength}
 use Rattle.jesc_jml_parser.specs.SoundMarks.{marked}
 use Rattle.jesc_jml_parser.specs.SoundLexemes.{Operates, Prefixes, Bounding, Typed}

@@ -3,12 +3,12 @@ use Rattle.std.proofs.Common.{◌≡◌, ℕ, suc, ◌-◌, ◌<◌, Bool, List,
 use Rattle.std.proofs.lemmas.Bool.{ltb-true}
 use Rattle.std.specs.Prelude.{nat_lt}
 use Rattle.jesc_ast.specs.Lexemes.{Lexeme}
-use Rattle.jesc_jml_parser.specs.declared.mark.Mark.{Mark}
-use Rattle.jesc_jml_parser.specs.declared.mark.Mark.TheVariants as m
-use Rattle.jesc_jml_parser.specs.Marks.{lexeme_mark}
-use Rattle.jesc_jml_parser.specs.Steps.{Parser, mark_at, take_one, expect, is_name_again}
-use Rattle.jesc_jml_parser.specs.Reading as spec
-use Rattle.jesc_jml_parser.specs.Reading.{Parsed, Bounds, Start, at_first, is_quantifier_mark, is_bound_mark}
+use Rattle.jesc_jml_grammar.specs.declared.mark.Mark.{Mark}
+use Rattle.jesc_jml_grammar.specs.declared.mark.Mark.TheVariants as m
+use Rattle.jesc_jml_grammar.specs.Marks.{lexeme_mark}
+use Rattle.jesc_jml_grammar.specs.Steps.{Parser, mark_at, take_one, expect, is_name_again}
+use Rattle.jesc_jml_grammar.specs.Reading as spec
+use Rattle.jesc_jml_grammar.specs.Reading.{Parsed, Bounds, Start, at_first, is_quantifier_mark, is_bound_mark}
 use Rattle.jesc_jml_parser.specs.SoundLexemes.{Quantifies, quantifies, Bounding, bounding, name_again, is_primitive_mark}
 use Rattle.jesc_jml_parser.specs.SoundPieces.{AreBounds}
 use Rattle.jesc_jml_parser.specs.SoundLists.{quantifier_piece}

@@ -2,11 +2,11 @@
 use Rattle.std.proofs.Common.{◌≡◌, ℕ, ◌≤◌, ◌<◌, Bool, true, false, List, [], ◌∷◌, ◌++◌, Ok, Err, refl, subst}
 use Rattle.std.specs.Prelude.{if◌then◌else◌}
 use Rattle.jesc_ast.specs.Lexemes.{Lexeme}
-use Rattle.jesc_jml_parser.specs.declared.mark.Mark.{Mark}
-use Rattle.jesc_jml_parser.specs.declared.mark.Mark.TheVariants as m
-use Rattle.jesc_jml_parser.specs.Marks.{lexeme_mark}
-use Rattle.jesc_jml_parser.specs.Steps.{Outcome, Parser, and_then, mark_at, take_one, refuse, same_mark, expect}
-use Rattle.jesc_jml_parser.specs.Reading.{Parsed, Start, at_first, behind_name, behind_bracket}
+use Rattle.jesc_jml_grammar.specs.declared.mark.Mark.{Mark}
+use Rattle.jesc_jml_grammar.specs.declared.mark.Mark.TheVariants as m
+use Rattle.jesc_jml_grammar.specs.Marks.{lexeme_mark}
+use Rattle.jesc_jml_grammar.specs.Steps.{Outcome, Parser, and_then, mark_at, take_one, refuse, same_mark, expect}
+use Rattle.jesc_jml_grammar.specs.Reading.{Parsed, Start, at_first, behind_name, behind_bracket}
 use Rattle.jesc_jml_parser.specs.SoundMarks.{same_is}
 use Rattle.jesc_jml_parser.specs.SoundPieces.{IsSpelled}
 

@@ -2,10 +2,10 @@
 use Rattle.std.proofs.Common.{◌≡◌, ◌⊎◌, ℕ, ◌+◌, ◌≤◌, ◌<◌, Bool, true, false, if◌then◌else◌, List, [], ◌∷◌, ◌++◌, length, Ok, Err, refl, sym, ap, ◌∙◌, subst, append_assoc, arith, inl, inr}
 use Rattle.std.proofs.lemmas.List.{length-append}
 use Rattle.jesc_ast.specs.Lexemes.{Lexeme}
-use Rattle.jesc_jml_parser.specs.declared.mark.Mark.{Mark}
-use Rattle.jesc_jml_parser.specs.declared.fault.Fault.TheVariants.{Unexpected, Deep, Long}
-use Rattle.jesc_jml_parser.specs.Steps.{Outcome, Parser, and_then, refuse, too_deep, mark_at, same_mark, take_one, expect}
-use Rattle.jesc_jml_parser.specs.Reading.{is_quantifier_mark}
+use Rattle.jesc_jml_grammar.specs.declared.mark.Mark.{Mark}
+use Rattle.jesc_jml_grammar.specs.declared.fault.Fault.TheVariants.{Unexpected, Deep, Long}
+use Rattle.jesc_jml_grammar.specs.Steps.{Outcome, Parser, and_then, refuse, too_deep, mark_at, same_mark, take_one, expect}
+use Rattle.jesc_jml_grammar.specs.Reading.{is_quantifier_mark}
 
 -- stops at a quantifier, or with so many lexemes taken, where so many were taken before
 pub record DeepAt (note : Bool) (need before : ℕ) (ts : List Lexeme) (n : ℕ) : Type 0 where

@@ -6,13 +6,13 @@ use Rattle.jesc_ast.specs.declared.word.TypeTree.{TypeTree}
 use Rattle.jesc_ast.specs.Lexemes.{Lexeme, join}
 use Rattle.jesc_ast.specs.Expressions.{type_tree, span_of}
 use Rattle.jesc_ast.specs.Trees.{Receiver, implied, on, name, member}
-use Rattle.jesc_jml_parser.specs.declared.mark.Mark.{Mark}
-use Rattle.jesc_jml_parser.specs.declared.mark.Mark.TheVariants as m
-use Rattle.jesc_jml_parser.specs.declared.fault.Fault.TheVariants.{Unexpected}
-use Rattle.jesc_jml_parser.specs.Steps.{Parser, mark_at, too_deep, refuse, same_mark, take_one, is_name_again, ◌>>=◌, ◌>>◌, pure, peek, expect}
-use Rattle.jesc_jml_parser.specs.Reading as spec
-use Rattle.jesc_jml_parser.specs.Reading.{Parsed, Listed, Start, at_first, behind_name, behind_bracket, opens, opens_at, allows_prefix, is_prefix_mark, casts, grows, is_type_mark, is_quantifier_mark, is_bound_mark, right_of, with_last, nothing, leaf, lone_name, over, word_of}
-use Rattle.jesc_jml_parser.specs.Refining.{Refines, refines_pure, refines_refuse, refines_deep, refines_peek, refines_take_one, refines_bind, refines_if, refines_expect, refines_peek_again, refines_unbounded, refines_long, Stops, head, mark_at-head}
+use Rattle.jesc_jml_grammar.specs.declared.mark.Mark.{Mark}
+use Rattle.jesc_jml_grammar.specs.declared.mark.Mark.TheVariants as m
+use Rattle.jesc_jml_grammar.specs.declared.fault.Fault.TheVariants.{Unexpected}
+use Rattle.jesc_jml_grammar.specs.Steps.{Parser, mark_at, too_deep, refuse, same_mark, ◌>>=◌, ◌>>◌, expect}
+use Rattle.jesc_jml_grammar.specs.Reading as spec
+use Rattle.jesc_jml_grammar.specs.Reading.{Parsed, Listed, Start, at_first, behind_name, behind_bracket, opens_at, allows_prefix, casts, grows, is_type_mark, is_quantifier_mark, is_bound_mark, right_of, with_last, nothing, leaf, lone_name, over, word_of}
+use Rattle.jesc_jml_grammar.specs.Refining.{Refines, refines_pure, refines_refuse, refines_deep, refines_peek, refines_take_one, refines_bind, refines_if, refines_expect, refines_peek_again, refines_unbounded, refines_long, head, mark_at-head}
 
 -- where there is room on the left, there is on the right
 pub refines_room : (same : Bool) {A : Type 0} (b b' : Bool) (p q : Parser A) → (b ≡ true → b' ≡ true) → (same ≡ true → b ≡ b') → Refines same p q
@@ -60,16 +60,16 @@ module _ (same note : Bool) (limit limit' : ℕ) (limits : limit ≤ limit') (ro
   unfolding spec.some_arguments
   refines_some_arguments = chain _ _ _ _ (here 1 at_first) (λ e. refines_more_arguments limit limit' limits (with_last nothing e))
 
-  refines_arguments : Refines same (spec.arguments note limit room less k) (spec.arguments note limit' room' more k')
+  pub refines_arguments : Refines same (spec.arguments note limit room less k) (spec.arguments note limit' room' more k')
   unfolding spec.arguments
   refines_arguments = chain _ _ _ _ (refines_peek same note) (λ mark. refines_if same (same_mark mark m.RightParen) _ _ _ _ (refines_pure same nothing) refines_some_arguments)
 
-  refines_called : (first : Span) (r : Receiver) (depth : ℕ) (x : Lexeme)
+  pub refines_called : (first : Span) (r : Receiver) (depth : ℕ) (x : Lexeme)
       → Refines same (spec.called note limit room less k first r depth x) (spec.called note limit' room' more k' first r depth x)
   unfolding spec.called
   refines_called first r depth x = chain _ _ _ _ (eat m.LeftParen) (λ p. chain _ _ _ _ refines_arguments (λ es. chain _ _ _ _ (eat m.RightParen) (λ q. refines_pure same _)))
 
-  refines_type_behind : (x : Lexeme) → Refines same (spec.type_behind note limit room less k x) (spec.type_behind note limit' room' more k' x)
+  pub refines_type_behind : (x : Lexeme) → Refines same (spec.type_behind note limit room less k x) (spec.type_behind note limit' room' more k' x)
   unfolding spec.type_behind
   refines_type_behind x = chain _ _ _ _ (refines_peek same note) (λ mark. refines_if same (same_mark mark m.LeftBracket) _ _ _ _
       (chain _ _ _ _ (eat m.LeftBracket) (λ p. chain _ _ _ _ (eat m.RightBracket) (λ q. refines_pure same (type_tree (join x.span q.span) x.text true))))
@@ -79,7 +79,7 @@ module _ (same note : Bool) (limit limit' : ℕ) (limits : limit ≤ limit') (ro
   unfolding spec.type_word
   refines_type_word = chain _ _ _ _ (refines_peek same note) (λ mark. refines_if same (is_type_mark mark) _ _ _ _ (refines_take_one same) (refines_refuse same))
 
-  refines_type : Refines same (spec.type_ note limit room less k) (spec.type_ note limit' room' more k')
+  pub refines_type : Refines same (spec.type_ note limit room less k) (spec.type_ note limit' room' more k')
   unfolding spec.type_
   refines_type = chain _ _ _ _ refines_type_word refines_type_behind
 
@@ -301,7 +301,7 @@ module _ (same note : Bool) (limit limit' : ℕ) (limits : limit ≤ limit') (ro
   refines_longer_by a m.LeftBracket = refines_indexed a
   refines_longer_by a _ = refines_operated a _
 
-  refines_climb : (least n n' : ℕ) → n ≤ n' → (same ≡ true → n ≡ n') → (a : Parsed)
+  pub refines_climb : (least n n' : ℕ) → n ≤ n' → (same ≡ true → n ≡ n') → (a : Parsed)
       → Refines same (spec.climb note limit room less k least n a) (spec.climb note limit' room' more k' least n' a)
   unfolding spec.climb
   refines_climb least zero zero le eq a = refines_deep same
@@ -328,7 +328,7 @@ shut_prefix note limit room inner k least mark true e ts = absurd cc
 shut_prefix note limit room inner k least mark false e ts = refl
 
 -- what can't begin an expression is refused
-shut : (note : Bool) (limit room : ℕ) (inner : ℕ → ℕ → Start → Parser Parsed) (k least : ℕ) (mark : Mark) → opens_at least mark ≡ false → (ts : List Lexeme)
+pub shut : (note : Bool) (limit room : ℕ) (inner : ℕ → ℕ → Start → Parser Parsed) (k least : ℕ) (mark : Mark) → opens_at least mark ≡ false → (ts : List Lexeme)
     → spec.first_by note limit room inner k least mark ts ≡ Err (Unexpected (length ts))
 shut note limit room inner k least m.Name e ts = absurd (shut_false (allows_prefix least) e)
 shut note limit room inner k least m.Number e ts = absurd (shut_false (allows_prefix least) e)
@@ -390,3 +390,10 @@ refines_expr same note limit limit' limits (suc room) zero rooms sr k k' ks sk l
 refines_expr same note limit limit' limits (suc room) (suc room') rooms sr k k' ks sk least start =
     refines_begun same note limit limit' limits room room' (omega arith) (λ s. omega (arith, sr s)) (spec.expr note limit room) (spec.expr note limit' room')
     (λ n n' le eq. refines_expr same note limit limit' limits room room' (omega arith) (λ s. omega (arith, sr s)) n n' le eq) k k' ks sk least start
+
+-- what no expression begins with is refused, however much room there is
+pub shut_expr : (note : Bool) (limit room k least : ℕ) (ts : List Lexeme) → opens_at least (mark_at note ts) ≡ false
+    → spec.expr note limit room k least at_first ts ≡ Err (Unexpected (length ts))
+unfolding spec.expr spec.no_room spec.first
+shut_expr note limit zero k least ts e = rw e refl
+shut_expr note limit (suc room) k least ts e = rw (shut note limit room (spec.expr note limit room) k least (mark_at note ts) e ts) refl

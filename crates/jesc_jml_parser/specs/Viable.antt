@@ -7,11 +7,11 @@ use Rattle.jesc_ast.specs.Words.{is_name, is_primitive}
 use Rattle.jesc_ast.specs.Lexemes.{Lexeme, word, backslash, sign, chosen_word, chosen_sign, number_of, kept, join}
 use Rattle.jesc_ast.specs.Trees.{Expression, number, truth, null, this, outcome, name, paren, member, index, unary, binary, choose, cast, instance_of, call, new_object, old, fresh, implied, super, on, no_expressions}
 use Rattle.jesc_ast.specs.Expressions.{span_of, type_tree, SpellsType, is_plain_type, is_array_type, IsOperator, is_equivalence, is_inequivalence, is_implication, is_or, is_and, is_equal, is_unequal, is_less, is_less_equal, is_greater, is_greater_equal, is_plus, is_minus, is_times, is_quotient, is_remainder, is_not, is_cast_by, begins_cast, is_cast_before, Spells, is_number, is_true, is_false, is_null, is_this, is_outcome, is_plain_name, is_paren, is_member, is_index, is_unary, is_binary, is_choose, is_cast, is_instance_of, is_own_call, is_super_call, is_call, is_new_object, is_old, is_fresh, no_arguments}
-use Rattle.jesc_jml_parser.specs.declared.mark.Mark.{Mark}
-use Rattle.jesc_jml_parser.specs.declared.mark.Mark.TheVariants as m
-use Rattle.jesc_jml_parser.specs.Marks.{lexeme_mark}
-use Rattle.jesc_jml_parser.specs.Steps.{same_mark}
-use Rattle.jesc_jml_parser.specs.Reading.{binds, needs, right_of, grows, casts, allows_prefix}
+use Rattle.jesc_jml_grammar.specs.declared.mark.Mark.{Mark}
+use Rattle.jesc_jml_grammar.specs.declared.mark.Mark.TheVariants as m
+use Rattle.jesc_jml_grammar.specs.Marks.{lexeme_mark}
+use Rattle.jesc_jml_grammar.specs.Steps.{same_mark}
+use Rattle.jesc_jml_grammar.specs.Reading.{binds, needs, right_of, grows, casts, allows_prefix}
 use Rattle.jesc_jml_parser.specs.Edges.{operator_mark, strength, goes_inside, goes_on}
 use Rattle.jesc_jml_parser.specs.SoundMarks.{marked, same_is}
 use Rattle.jesc_jml_parser.specs.SoundLexemes.{is_operator_mark, operates, casting}

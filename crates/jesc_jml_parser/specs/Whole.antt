@@ -6,14 +6,14 @@ use Rattle.jesc_ast.specs.Lexemes.{Lexeme}
 use Rattle.jesc_ast.specs.Trees.{Expression, name, paren, member, unary, binary, choose, cast, instance_of}
 use Rattle.jesc_ast.specs.Expressions.{Spells, SpellsExpression}
 use Rattle.jesc_ast.specs.Depth.{depth, nesting, IsWithinLimits}
-use Rattle.jesc_jml_parser.specs.declared.mark.Mark.{Mark}
-use Rattle.jesc_jml_parser.specs.declared.mark.Mark.TheVariants as m
-use Rattle.jesc_jml_parser.specs.declared.fault.Fault.{Fault}
-use Rattle.jesc_jml_parser.specs.declared.fault.Fault.TheVariants.{Unexpected, Deep}
-use Rattle.jesc_jml_parser.specs.Marks.{lexeme_mark}
-use Rattle.jesc_jml_parser.specs.Steps.{Outcome, mark_at, same_mark}
-use Rattle.jesc_jml_parser.specs.Reading.{Parsed, at_first, right_of, grows, expr}
-use Rattle.jesc_jml_parser.specs.Refining.{head, ok_is, Answers, Stops}
+use Rattle.jesc_jml_grammar.specs.declared.mark.Mark.{Mark}
+use Rattle.jesc_jml_grammar.specs.declared.mark.Mark.TheVariants as m
+use Rattle.jesc_jml_grammar.specs.declared.fault.Fault.{Fault}
+use Rattle.jesc_jml_grammar.specs.declared.fault.Fault.TheVariants.{Unexpected, Deep}
+use Rattle.jesc_jml_grammar.specs.Marks.{lexeme_mark}
+use Rattle.jesc_jml_grammar.specs.Steps.{Outcome, mark_at, same_mark}
+use Rattle.jesc_jml_grammar.specs.Reading.{Parsed, at_first, right_of, grows, expr}
+use Rattle.jesc_jml_grammar.specs.Refining.{head, ok_is, Answers, Stops}
 use Rattle.jesc_jml_parser.specs.Sound.{expr_sound}
 use Rattle.jesc_jml_parser.specs.Complete.{expr_complete}
 use Rattle.jesc_jml_parser.specs.Stable.{refines_expr}

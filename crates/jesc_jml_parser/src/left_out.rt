@@ -3,10 +3,10 @@
 ghost use Rattle.std.specs.Prelude.{◌≡◌, ◌∷◌, [], codes};
 ghost use Rattle.jesc_ast.specs.Words.{is_one_of};
 ghost use Rattle.jesc_ast.specs.LeftOut as spec;
-ghost use Rattle.jesc_jml_parser.specs.Seen.{lexeme};
+ghost use Rattle.jesc_jml_grammar.specs.Seen.{lexeme};
 
-use crate::cursor::Lexeme;
-use crate::mark::same;
+use jesc_jml_grammar::cursor::Lexeme;
+use jesc_jml_grammar::mark::same;
 use jesc_lexer::TokenKind;
 
 fn is_first_code_word(text: &[u8]) -> bool

@@ -1,22 +1,21 @@
 //! The calls that read the longest tree at a token.
 
-ghost use Rattle.std.specs.Prelude.{◌≡◌, ℕ, ◌-◌, ◌≤◌, IsTrue, Bool, List, length, drop, IfOk, IfErr};
+ghost use Rattle.std.specs.Prelude.{◌≡◌, ℕ, ◌-◌, ◌≤◌, IsTrue, Bool, List, length, IfOk, IfErr};
 ghost use Rattle.std.specs.List.{list_all};
 ghost use Rattle.jesc_lexer.specs.Spans.{AreSpans};
 ghost use Rattle.jesc_ast.specs.Lexemes.{Lexeme as Piece, is_within};
 ghost use Rattle.jesc_ast.specs.Trees.{Expression, view};
 ghost use Rattle.jesc_ast.specs.Expressions.{SpellsExpression};
-ghost use Rattle.jesc_jml_parser.specs.Answers.{IsLongest};
 ghost use Rattle.jesc_jml_parser.specs.Parsed.{lexemes_from, IsFound, IsAnswer, IsExpressionRefusal, whole, IsGiven};
-ghost use Rattle.jesc_jml_parser.specs.Seen.{seen};
+ghost use Rattle.jesc_jml_grammar.specs.Seen.{seen};
 
-use crate::cursor::Cursor;
 use crate::error::SyntaxError;
-use crate::expr::expr;
-use crate::fault::ParseError;
-use crate::found::Start;
 use crate::refusal::error_of;
 use jesc_ast::Expr;
+use jesc_jml_grammar::cursor::Cursor;
+use jesc_jml_grammar::expr::expr;
+use jesc_jml_grammar::fault::ParseError;
+use jesc_jml_grammar::found::Start;
 use jesc_lexer::Tokens;
 use std::alloc::Global;
 
@@ -28,7 +27,7 @@ pub const QUANTIFIERS: usize = 3;
 
 /// The tokens from this one on, seen from code or, with `note`, from annotations.
 #[tactic(auto, using(crate::proofs::Spanned::are_left_within, crate::proofs::Expressed::seen_from))]
-fn cursor_at<'a>(tokens: &'a Tokens, from: u32, note: bool) -> Cursor<'a>
+pub fn cursor_at<'a>(tokens: &'a Tokens, from: u32, note: bool) -> Cursor<'a>
     requires within { IsTrue (list_all (is_within (length tokens.now.text)) tokens.now.list) }
     requires from { from ≤ length tokens.now.list }
     ensures seen { seen result ≡ lexemes_from tokens.now from }
@@ -43,7 +42,7 @@ fn cursor_at<'a>(tokens: &'a Tokens, from: u32, note: bool) -> Cursor<'a>
 }
 
 /// The number of the token at which so many are left.
-fn number_of(tokens: &Tokens, left: usize) -> u32
+pub fn number_of(tokens: &Tokens, left: usize) -> u32
     requires few { length tokens.now.list ≤ 1048576 }
     ensures { result ≡ length tokens.now.list - left }
 {

@@ -3,14 +3,14 @@
 ghost use Rattle.std.specs.Prelude.{◌≡◌, ◌≤◌, IsTrue, length, slice_get};
 ghost use Rattle.std.specs.List.{list_all};
 ghost use Rattle.jesc_ast.specs.Lexemes.{is_within, lexeme_of};
-ghost use Rattle.jesc_jml_parser.specs.Refusals.{file_of as file_of_tokens, place_of_next, text_of_next, is_left_out_next, Tells, IsShown, IsErrorOf};
-ghost use Rattle.jesc_jml_parser.specs.Seen.{lexeme};
+ghost use Rattle.jesc_jml_parser.specs.Refusals.{file_of as file_of_tokens, place_of_next, Tells, IsShown, IsErrorOf};
+ghost use Rattle.jesc_jml_grammar.specs.Seen.{lexeme};
 
-use crate::cursor::Lexeme;
 use crate::error::SyntaxError;
-use crate::fault::{Fault, ParseError};
 use crate::left_out::is_left_out;
-use crate::make::text_of;
+use jesc_jml_grammar::cursor::Lexeme;
+use jesc_jml_grammar::fault::{Fault, ParseError};
+use jesc_jml_grammar::make::text_of;
 use jesc_lexer::{Token, Tokens};
 use jesc_text::{Place, place_of};
 use std::alloc::Global;

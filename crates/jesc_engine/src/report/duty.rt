@@ -1,6 +1,6 @@
-ghost use Rattle.std.specs.Prelude.{◌≡◌, ◌++◌, OnOk, IfOk, not};
+ghost use Rattle.std.specs.Prelude.{◌≡◌, ◌++◌, OnOk, IfOk};
 ghost use Rattle.std.specs.List.{flat_map};
-ghost use Rattle.jesc_engine.specs.Report.{duty_text, finding_line, verdict_line, duty_lines, last_line, is_verified as verified, count_verified as verified_count, count_warned as warned_count};
+ghost use Rattle.jesc_engine.specs.Report.{duty_text, finding_line, verdict_line, duty_lines, is_verified as verified};
 
 use crate::answer::{Finding, Judgement};
 use crate::report::warning::put_finding;
@@ -29,28 +29,8 @@ pub(crate) fn is_verified(findings: &[Finding]) -> bool
     findings.iter().all(|finding| finding.answer.is_proved())
 }
 
-/// How many duties are verified.
-fn count_verified(judgements: &[Judgement]) -> usize
-    ensures { result ≡ verified_count judgements.now }
-{
-    judgements
-        .iter()
-        .filter(|judgement| is_verified(judgement.findings.as_slice()))
-        .count()
-}
-
-/// How many duties are not verified.
-fn count_warned(judgements: &[Judgement]) -> usize
-    ensures { result ≡ warned_count judgements.now }
-{
-    judgements
-        .iter()
-        .filter(|judgement| !is_verified(judgement.findings.as_slice()))
-        .count()
-}
-
 fn put_findings(into: &mut Text, source: &Source, judgement: &Judgement) -> Result<(), OutOfMemory>
-    ensures { OnOk result (into.new ≡ into.old ++ flat_map (finding_line source.now.name source.now.bytes judgement.now.duty) judgement.now.findings) }
+    ensures { OnOk result (into.new ≡ into.old ++ flat_map (finding_line source.now.name.now source.now.bytes.now judgement.now.duty) judgement.now.findings) }
 {
     for finding in judgement.findings.as_slice() {
         put_finding(into, source, judgement.duty.as_slice(), finding)?;
@@ -75,22 +55,8 @@ pub(crate) fn put_duty(
     source: &Source,
     judgement: &Judgement,
 ) -> Result<(), OutOfMemory>
-    ensures { OnOk result (into.new ≡ into.old ++ duty_lines source.now.name source.now.bytes judgement.now) }
+    ensures { OnOk result (into.new ≡ into.old ++ duty_lines source.now.name.now source.now.bytes.now judgement.now) }
 {
     put_findings(into, source, judgement)?;
     put_verdict(into, judgement)
-}
-
-/// Appends the line with the counts of all duties.
-pub(crate) fn put_last_line(into: &mut Text, judgements: &[Judgement]) -> Result<(), OutOfMemory>
-    ensures { OnOk result (into.new ≡ into.old ++ last_line judgements.now) }
-{
-    into.append(b"methods ")?;
-    put_count(into, judgements.len())?;
-    into.append(b", verified ")?;
-    put_count(into, count_verified(judgements))?;
-    into.append(b", warned ")?;
-    put_count(into, count_warned(judgements))?;
-    into.append(b", skipped 0\n")?;
-    Ok(())
 }

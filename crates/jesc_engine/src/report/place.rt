@@ -14,10 +14,10 @@ pub(crate) fn put_count(into: &mut Text, n: usize) -> Result<(), OutOfMemory>
 
 /// Appends `FILE:LINE:COL` for an offset of the file.
 pub(crate) fn put_place(into: &mut Text, source: &Source, offset: u32) -> Result<(), OutOfMemory>
-    ensures { OnOk result (into.new ≡ into.old ++ place_text source.now.name source.now.bytes offset) }
+    ensures { OnOk result (into.new ≡ into.old ++ place_text source.now.name.now source.now.bytes.now offset) }
 {
     let (line, column) = source.place(offset);
-    into.append(source.name.as_slice())?;
+    into.append(source.name.as_bytes())?;
     into.append(b":")?;
     put_count(into, line as usize)?;
     into.append(b":")?;

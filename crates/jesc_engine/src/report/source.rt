@@ -2,21 +2,21 @@
 //!
 //! The table is made once, so that a place costs a binary search and no walk over the file.
 
-ghost use Rattle.std.specs.Prelude.{◌≡◌, ◌≤◌, ◌+◌, ◌++◌, length, IfOk};
+ghost use Rattle.std.specs.Prelude.{◌≡◌, ◌≤◌, ◌+◌, length, IfOk};
 ghost use Rattle.jesc_text.specs.Places.{line_at, column_at};
 ghost use Rattle.jesc_engine.specs.Starts.{AreStarts};
 
-use jesc_text::{List, OutOfMemory, Text};
+use jesc_text::{List, OutOfMemory};
 use std::alloc::Global;
 
 /// A file of at most 1,048,576 bytes.
 #[derive(Drop)]
-pub(crate) struct Source {
-    pub name: Text,
-    pub bytes: Text,
+pub(crate) struct Source<'a> {
+    pub name: &'a str,
+    pub bytes: &'a [u8],
     starts: List<u32>,
-    ghost table: { AreStarts bytes starts },
-    ghost short: { length bytes ≤ 1048576 },
+    ghost table: { AreStarts bytes.now starts },
+    ghost short: { length bytes.now ≤ 1048576 },
 }
 
 /// The offset of each line's first byte.
@@ -53,18 +53,16 @@ fn count_up_to(bytes: &[u8], starts: &[u32], offset: u32) -> usize
     low
 }
 
-impl Source {
+impl<'a> Source<'a> {
     /// The file of this name with these bytes.
-    pub fn new(alloc: Global, name: &str, bytes: Text) -> Result<Source, OutOfMemory>
-        requires { length bytes ≤ 1048576 }
-        ensures name { IfOk result (λ source. source.name ≡ name.now) }
-        ensures bytes { IfOk result (λ source. source.bytes ≡ bytes) }
+    pub fn new(alloc: Global, name: &'a str, bytes: &'a [u8]) -> Result<Source<'a>, OutOfMemory>
+        requires { length bytes.now ≤ 1048576 }
+        ensures name { IfOk result (λ source. source.name.now ≡ name.now) }
+        ensures bytes { IfOk result (λ source. source.bytes.now ≡ bytes.now) }
     {
-        let mut text = Text::new(alloc);
-        text.append(name.as_bytes())?;
-        let starts = line_starts(alloc, bytes.as_slice())?;
+        let starts = line_starts(alloc, bytes)?;
         Ok(Source {
-            name: text,
+            name,
             bytes,
             starts,
         })
@@ -72,13 +70,12 @@ impl Source {
 
     /// The line and the column of an offset, both counted from 1. An offset beyond the end has the place of the end.
     pub fn place(&self, offset: u32) -> (u32, u32)
-        ensures line { result.0 ≡ line_at self.now.bytes offset }
-        ensures column { result.1 ≡ column_at self.now.bytes offset }
+        ensures line { result.0 ≡ line_at self.now.bytes.now offset }
+        ensures column { result.1 ≡ column_at self.now.bytes.now offset }
     {
-        let bytes = self.bytes.as_slice();
         let starts = self.starts.as_slice();
-        let at = offset.min(bytes.len() as u32);
-        let line = count_up_to(bytes, starts, at);
+        let at = offset.min(self.bytes.len() as u32);
+        let line = count_up_to(self.bytes, starts, at);
         (line as u32, at - starts[line - 1] + 1)
     }
 }

@@ -49,7 +49,7 @@ fn put_cause(into: &mut Text, answer: &Answer) -> Result<(), OutOfMemory>
 
 /// Appends the second place of a warning, if it has one.
 fn put_by(into: &mut Text, source: &Source, by: Option<u32>) -> Result<(), OutOfMemory>
-    ensures { OnOk result (into.new ≡ into.old ++ by_text source.now.name source.now.bytes by) }
+    ensures { OnOk result (into.new ≡ into.old ++ by_text source.now.name.now source.now.bytes.now by) }
 {
     match by {
         None => Ok(()),
@@ -67,7 +67,7 @@ fn put_warning(
     duty: &[u8],
     finding: &Finding,
 ) -> Result<(), OutOfMemory>
-    ensures { OnOk result (into.new ≡ into.old ++ warning_line source.now.name source.now.bytes duty.now finding.now) }
+    ensures { OnOk result (into.new ≡ into.old ++ warning_line source.now.name.now source.now.bytes.now duty.now finding.now) }
 {
     put_place(into, source, finding.check.at)?;
     into.append(b": warning: ")?;
@@ -88,7 +88,7 @@ pub(crate) fn put_finding(
     duty: &[u8],
     finding: &Finding,
 ) -> Result<(), OutOfMemory>
-    ensures { OnOk result (into.new ≡ into.old ++ finding_line source.now.name source.now.bytes duty.now finding.now) }
+    ensures { OnOk result (into.new ≡ into.old ++ finding_line source.now.name.now source.now.bytes.now duty.now finding.now) }
 {
     if finding.answer.is_proved() {
         return Ok(());

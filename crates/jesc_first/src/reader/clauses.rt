@@ -1,14 +1,15 @@
 //! The clauses before a method.
 
-ghost use Rattle.std.specs.Prelude.{◌≡◌, ◌≤◌, ◌<◌, IfOk, length};
+ghost use Rattle.std.specs.Prelude.{◌<◌, IfOk};
 ghost use Rattle.jesc_first.specs.Parsing.{demand_in, demands_in, promise_in, promises_in};
 ghost use Rattle.jesc_first.specs.Reads.{Reads, Taken};
+ghost use Rattle.jesc_first.specs.Seen.{seen};
 
-use crate::lexeme::Lexical;
 use crate::reader::cursor::{Cursor, Stop};
 use crate::reader::names::Names;
 use crate::reader::sums::condition;
 use crate::tree::{Clause, Condition};
+use jesc_lexer::TokenKind;
 use jesc_text::List;
 use std::alloc::Global;
 
@@ -17,14 +18,14 @@ fn next_demand(
     cursor: &mut Cursor<'_>,
     scope: &Names<'_>,
 ) -> Result<Option<Condition>, Stop>
-    ensures shorter { IfOk result (λ condition. Taken condition cursor.old.rest.now cursor.new.rest.now) }
-    ensures reads { Reads (demand_in scope.now cursor.old.rest.now) result cursor.new.rest.now }
+    ensures shorter { IfOk result (λ condition. Taken condition (seen cursor.old) (seen cursor.new)) }
+    ensures reads { Reads (demand_in scope.now (seen cursor.old)) result (seen cursor.new) }
 {
-    if cursor.expect(Lexical::Word, true, b"requires").is_err() {
+    if cursor.expect(TokenKind::Word, true, b"requires").is_err() {
         return Ok(None);
     }
     let condition = condition(alloc, cursor, false, scope)?;
-    cursor.expect(Lexical::Sign, true, b";")?;
+    cursor.expect(TokenKind::Sign, true, b";")?;
     Ok(Some(condition))
 }
 
@@ -34,7 +35,7 @@ pub fn demands(
     cursor: &mut Cursor<'_>,
     scope: &Names<'_>,
 ) -> Result<List<Condition>, Stop>
-    ensures reads { Reads (demands_in scope.now cursor.old.rest.now) result cursor.new.rest.now }
+    ensures reads { Reads (demands_in scope.now (seen cursor.old)) result (seen cursor.new) }
 {
     let mut demands = List::new(alloc);
     while let Some(condition) = next_demand(alloc, cursor, scope)? {
@@ -49,15 +50,15 @@ fn next_promise(
     outcome: bool,
     scope: &Names<'_>,
 ) -> Result<Option<Clause>, Stop>
-    ensures shorter { IfOk result (λ clause. Taken clause cursor.old.rest.now cursor.new.rest.now) }
-    ensures reads { Reads (promise_in outcome scope.now cursor.old.rest.now) result cursor.new.rest.now }
+    ensures shorter { IfOk result (λ clause. Taken clause (seen cursor.old) (seen cursor.new)) }
+    ensures reads { Reads (promise_in outcome scope.now (seen cursor.old)) result (seen cursor.new) }
 {
-    if cursor.expect(Lexical::Word, true, b"ensures").is_err() {
+    if cursor.expect(TokenKind::Word, true, b"ensures").is_err() {
         return Ok(None);
     }
     let at = cursor.offset();
     let condition = condition(alloc, cursor, outcome, scope)?;
-    cursor.expect(Lexical::Sign, true, b";")?;
+    cursor.expect(TokenKind::Sign, true, b";")?;
     Ok(Some(Clause { at, condition }))
 }
 
@@ -68,7 +69,7 @@ pub fn promises(
     outcome: bool,
     scope: &Names<'_>,
 ) -> Result<List<Clause>, Stop>
-    ensures reads { Reads (promises_in outcome scope.now cursor.old.rest.now) result cursor.new.rest.now }
+    ensures reads { Reads (promises_in outcome scope.now (seen cursor.old)) result (seen cursor.new) }
 {
     let mut promises = List::new(alloc);
     while let Some(clause) = next_promise(alloc, cursor, outcome, scope)? {

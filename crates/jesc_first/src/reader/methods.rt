@@ -1,20 +1,20 @@
-//! Methods and the class.
+//! Methods and classes.
 //!
 //! The clauses before a method speak of its parameters, which stand behind them. So a method is read from its header
 //! on first; then its clauses, which have to end where the header begins; and then its body.
 
-ghost use Rattle.std.specs.Prelude.{◌≡◌, ◌≤◌, ◌<◌, [], IfOk, length};
-ghost use Rattle.jesc_first.specs.Parsing.{clauses_in, method_in, next_method_in, methods_in, list_read, class_in};
-ghost use Rattle.jesc_first.specs.Reads.{Reads, ReadsWith, ReadsClauses, ReadsClass, Taken};
+ghost use Rattle.std.specs.Prelude.{◌≤◌, ◌<◌, IfOk, length};
+ghost use Rattle.jesc_first.specs.Parsing.{clauses_in, method_in, next_method_in, methods_in, list_read, class_in, next_class_in, classes_in};
+ghost use Rattle.jesc_first.specs.Reads.{Reads, ReadsWith, ReadsClauses, ReadsFile, Keeps, Taken};
+ghost use Rattle.jesc_first.specs.Seen.{seen};
 
-use crate::lexeme::Lexical;
 use crate::reader::body::{end, statements};
 use crate::reader::clauses::{demands, promises};
 use crate::reader::cursor::{Cursor, Stop};
-use crate::reader::header::{read_header, text_of};
+use crate::reader::header::{new_name, read_header};
 use crate::reader::names::Names;
-use crate::reader::place::place_before_body;
 use crate::tree::{Class, Clause, Condition, Method};
+use jesc_lexer::TokenKind;
 use jesc_text::List;
 use std::alloc::Global;
 
@@ -26,18 +26,18 @@ pub struct Clauses {
 }
 
 /// The clauses from a cursor on up to a header, from which on so many tokens are left.
-pub fn read_clauses(
+fn read_clauses(
     alloc: Global,
     cursor: &mut Cursor<'_>,
     left: usize,
     outcome: bool,
     scope: &Names<'_>,
 ) -> Result<Clauses, Stop>
-    ensures reads { ReadsClauses (clauses_in outcome scope.now cursor.old.rest.now left) result cursor.new.rest.now }
+    ensures reads { ReadsClauses (clauses_in outcome scope.now (seen cursor.old) left) result (seen cursor.new) }
 {
     let demands = demands(alloc, cursor, scope)?;
     let promises = promises(alloc, cursor, outcome, scope)?;
-    if cursor.rest.len() != left {
+    if cursor.left() != left {
         return Err(Stop::Refused);
     }
     Ok(Clauses { demands, promises })
@@ -48,34 +48,15 @@ fn method<'a>(
     cursor: &mut Cursor<'a>,
     methods: &mut Names<'a>,
 ) -> Result<Method, Stop>
-    ensures shorter { IfOk result (λ method. length cursor.new.rest.now < length cursor.old.rest.now) }
-    ensures reads { ReadsWith (method_in methods.old cursor.old.rest.now) result methods.new cursor.new.rest.now }
+    ensures shorter { IfOk result (λ method. length (seen cursor.new) < length (seen cursor.old)) }
+    ensures reads { ReadsWith (method_in methods.old (seen cursor.old)) result methods.new (seen cursor.new) }
 {
-    let start = *cursor;
+    let mut before = cursor.again();
     let mut scope = Names::new(alloc);
     cursor.skip_to_static();
-    let heading = *cursor;
-    let header = match read_header(alloc, cursor, methods, &mut scope) {
-        Ok(header) => header,
-        Err(stop) => {
-            *cursor = place_before_body(alloc, start, heading, *cursor)?;
-            return Err(stop);
-        }
-    };
-    let mut before = start;
-    let clauses = match read_clauses(
-        alloc,
-        &mut before,
-        heading.rest.len(),
-        header.returns,
-        &scope,
-    ) {
-        Ok(clauses) => clauses,
-        Err(stop) => {
-            *cursor = place_before_body(alloc, start, heading, before)?;
-            return Err(stop);
-        }
-    };
+    let left = cursor.left();
+    let header = read_header(alloc, cursor, methods, &mut scope)?;
+    let clauses = read_clauses(alloc, &mut before, left, header.returns, &scope)?;
     let body = statements(alloc, cursor, &mut scope)?;
     let (value, exit) = end(alloc, cursor, header.returns, &scope)?;
     Ok(Method {
@@ -94,10 +75,10 @@ fn next_method<'a>(
     cursor: &mut Cursor<'a>,
     names: &mut Names<'a>,
 ) -> Result<Option<Method>, Stop>
-    ensures shorter { IfOk result (λ method. Taken method cursor.old.rest.now cursor.new.rest.now) }
-    ensures reads { ReadsWith (next_method_in names.old cursor.old.rest.now) result names.new cursor.new.rest.now }
+    ensures shorter { IfOk result (λ method. Taken method (seen cursor.old) (seen cursor.new)) }
+    ensures reads { ReadsWith (next_method_in names.old (seen cursor.old)) result names.new (seen cursor.new) }
 {
-    if cursor.begins(Lexical::Sign, false, b"}") {
+    if cursor.begins(TokenKind::Sign, false, b"}") {
         return Ok(None);
     }
     let method = method(alloc, cursor, names)?;
@@ -105,7 +86,8 @@ fn next_method<'a>(
 }
 
 fn methods(alloc: Global, cursor: &mut Cursor<'_>) -> Result<List<Method>, Stop>
-    ensures reads { Reads (list_read (methods_in cursor.old.rest.now)) result cursor.new.rest.now }
+    ensures shorter { IfOk result (λ methods. length (seen cursor.new) ≤ length (seen cursor.old)) }
+    ensures reads { Reads (list_read (methods_in (seen cursor.old))) result (seen cursor.new) }
 {
     let mut names = Names::new(alloc);
     let mut methods = List::new(alloc);
@@ -115,18 +97,63 @@ fn methods(alloc: Global, cursor: &mut Cursor<'_>) -> Result<List<Method>, Stop>
     Ok(methods)
 }
 
-/// The class that the tokens from the cursor on spell.
-pub fn class(alloc: Global, cursor: &mut Cursor<'_>) -> Result<Class, Stop>
-    ensures reads { ReadsClass cursor.old.rest.now result }
+/// A class whose name is not there yet. Its name goes to the names.
+fn class<'a>(alloc: Global, cursor: &mut Cursor<'a>, names: &mut Names<'a>) -> Result<Class, Stop>
+    ensures keeps { Keeps names.old names.new }
+    ensures shorter { IfOk result (λ class. length (seen cursor.new) < length (seen cursor.old)) }
+    ensures reads { ReadsWith (class_in names.old (seen cursor.old)) result names.new (seen cursor.new) }
 {
-    cursor.expect(Lexical::Word, false, b"class")?;
-    let name = cursor.name()?;
-    let name = text_of(alloc, name)?;
-    cursor.expect(Lexical::Sign, false, b"{")?;
+    cursor.expect(TokenKind::Word, false, b"class")?;
+    let name = new_name(alloc, cursor, names)?;
+    cursor.expect(TokenKind::Sign, false, b"{")?;
     let methods = methods(alloc, cursor)?;
-    cursor.expect(Lexical::Sign, false, b"}")?;
+    cursor.expect(TokenKind::Sign, false, b"}")?;
+    Ok(Class { name, methods })
+}
+
+fn next_class<'a>(
+    alloc: Global,
+    cursor: &mut Cursor<'a>,
+    names: &mut Names<'a>,
+) -> Result<Option<Class>, Stop>
+    ensures keeps { Keeps names.old names.new }
+    ensures shorter { IfOk result (λ class. Taken class (seen cursor.old) (seen cursor.new)) }
+    ensures reads { ReadsWith (next_class_in names.old (seen cursor.old)) result names.new (seen cursor.new) }
+{
+    if !cursor.begins(TokenKind::Word, false, b"class") {
+        return Ok(None);
+    }
+    let class = class(alloc, cursor, names)?;
+    Ok(Some(class))
+}
+
+fn classes<'a>(
+    alloc: Global,
+    cursor: &mut Cursor<'a>,
+    names: &mut Names<'a>,
+) -> Result<List<Class>, Stop>
+    ensures keeps { Keeps names.old names.new }
+    ensures reads { ReadsWith (classes_in names.old (seen cursor.old)) result names.new (seen cursor.new) }
+{
+    let mut classes = List::new(alloc);
+    while let Some(class) = next_class(alloc, cursor, names)? {
+        classes.push(class)?;
+    }
+    Ok(classes)
+}
+
+/// The classes that the tokens from the cursor on spell. Their names go to the names.
+pub fn read_file<'a>(
+    alloc: Global,
+    cursor: &mut Cursor<'a>,
+    names: &mut Names<'a>,
+) -> Result<List<Class>, Stop>
+    ensures keeps { Keeps names.old names.new }
+    ensures reads { ReadsFile names.old (seen cursor.old) result names.new }
+{
+    let classes = classes(alloc, cursor, names)?;
     if !cursor.rest.is_empty() {
         return Err(Stop::Refused);
     }
-    Ok(Class { name, methods })
+    Ok(classes)
 }

@@ -1,6 +1,8 @@
-ghost use Rattle.std.specs.Prelude.{◌≡◌, [], IfOk};
+//! Sets of names.
+
+ghost use Rattle.std.specs.Prelude.{◌≡◌, [], length, take, IfOk};
 ghost use Rattle.jesc_first.specs.Parsing.{slot_in};
-ghost use Rattle.jesc_first.specs.Reads.{Adds};
+ghost use Rattle.jesc_first.specs.Reads.{Adds, Keeps};
 
 use indexmap::IndexSet;
 use jesc_text::OutOfMemory;
@@ -33,6 +35,13 @@ impl<'a> Names<'a> {
         }
     }
 
+    /// The number of names.
+    pub(crate) fn len(&self) -> usize
+        ensures { result ≡ length self.now }
+    {
+        self.set.len()
+    }
+
     /// The place of a name, counted from 0.
     pub fn slot_of(&self, name: &[u8]) -> Option<u32>
         ensures { result ≡ slot_in self.now name.now }
@@ -45,7 +54,8 @@ impl<'a> Names<'a> {
 
     /// Adds a name at the end, and answers whether it is new. Answers `OutOfMemory` where there is no room for it.
     pub fn add(&mut self, name: &'a [u8]) -> Result<bool, OutOfMemory>
-        ensures { IfOk result (λ added. Adds self.old name.now (slot_in self.old name.now) added self.new) }
+        ensures added { IfOk result (λ added. Adds self.old name.now (slot_in self.old name.now) added self.new) }
+        ensures keeps { Keeps self.old self.new }
     {
         if self.set.len() >= u32::MAX as usize {
             return Err(OutOfMemory);
@@ -54,5 +64,12 @@ impl<'a> Names<'a> {
             return Err(OutOfMemory);
         };
         Ok(added)
+    }
+
+    /// Keeps the first `len` names.
+    pub(crate) fn cut(&mut self, len: usize)
+        ensures { self.new ≡ take len self.old }
+    {
+        self.set.truncate(len);
     }
 }

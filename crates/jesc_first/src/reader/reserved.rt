@@ -1,12 +1,10 @@
 //! Which words are names.
 
 ghost use Rattle.std.specs.Prelude.{◌≡◌};
-ghost use Rattle.std.specs.List.{list_any};
+ghost use Rattle.std.specs.List.{list_any, list_all};
 ghost use Rattle.std.specs.Str.{bytes_eq};
-ghost use Rattle.jesc_first.specs.Names.{is_reserved as is_reserved_word};
+ghost use Rattle.jesc_first.specs.Names as spec;
 ghost use Rattle.jesc_first.specs.Parsing.{is_word_text, is_name_text};
-
-use crate::reader::bytes::{Going, front_len, is_letter};
 
 /// The keywords and literals of Java that look like words, and the underscore alone.
 const RESERVED: [&[u8]; 54] = [
@@ -66,6 +64,24 @@ const RESERVED: [&[u8]; 54] = [
     b"null",
 ];
 
+fn is_letter(byte: u8) -> bool
+    ensures { result ≡ spec.is_letter byte }
+{
+    matches!(byte, b'a'..=b'z' | b'A'..=b'Z' | b'_')
+}
+
+fn is_word_byte(byte: u8) -> bool
+    ensures { result ≡ spec.is_word_byte byte }
+{
+    is_letter(byte) || matches!(byte, b'0'..=b'9')
+}
+
+fn are_word_bytes(text: &[u8]) -> bool
+    ensures { result ≡ list_all spec.is_word_byte text.now }
+{
+    text.iter().all(|byte| is_word_byte(*byte))
+}
+
 fn is_among(text: &[u8], words: &[&[u8]]) -> bool
     ensures { result ≡ list_any (λ word. bytes_eq text.now word.now) words.now }
 {
@@ -78,7 +94,7 @@ fn is_among(text: &[u8], words: &[&[u8]]) -> bool
 }
 
 fn is_reserved(text: &[u8]) -> bool
-    ensures { result ≡ is_reserved_word text.now }
+    ensures { result ≡ spec.is_reserved text.now }
 {
     is_among(text, &RESERVED)
 }
@@ -89,10 +105,7 @@ fn is_word(text: &[u8]) -> bool
 {
     match text {
         [] => false,
-        [first, more @ ..] => {
-            let going = front_len(Going::Word, more);
-            is_letter(*first) && going == more.len()
-        }
+        [first, more @ ..] => is_letter(*first) && are_word_bytes(more),
     }
 }
 

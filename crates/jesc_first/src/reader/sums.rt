@@ -1,19 +1,20 @@
 //! Parts, sums and conditions.
 
-ghost use Rattle.std.specs.Prelude.{◌≡◌, ◌≤◌, ◌<◌, IfOk, OnErr, length};
+ghost use Rattle.std.specs.Prelude.{◌≡◌, ◌≤◌, ◌<◌, IfOk, length};
 ghost use Rattle.jesc_first.specs.Parsing.{part_of_kind, number_in, part_in, operator_in, operation_in, operations_in, sum_in, comparison_in, condition_in};
 ghost use Rattle.jesc_first.specs.Reads.{Reads, Taken};
+ghost use Rattle.jesc_first.specs.Seen.{lexeme, seen};
 
-use crate::lexeme::Lexical;
 use crate::reader::cursor::{Cursor, Stop};
+use crate::reader::lexeme::{Lexeme, lexeme_at};
 use crate::reader::names::Names;
-use crate::reader::token::Token;
 use crate::tree::{Comparison, Condition, Operation, Operator, Part, Sum};
+use jesc_lexer::TokenKind;
 use jesc_text::{List, read_number};
 use std::alloc::Global;
 
 /// The number that digits spell, where it is at most 2147483647 and has no leading zero.
-fn number(text: &[u8]) -> Option<u32>
+pub fn number(text: &[u8]) -> Option<u32>
     ensures { result ≡ number_in text.now }
 {
     match read_number(text) {
@@ -29,19 +30,19 @@ pub struct Setting {
     pub outcome: bool,
 }
 
-fn part_of(token: &Token<'_>, outcome: bool, scope: &Names<'_>) -> Option<Part>
-    ensures { result ≡ part_of_kind outcome scope.now token.now.text.now token.now.kind }
+fn part_of(found: &Lexeme<'_>, outcome: bool, scope: &Names<'_>) -> Option<Part>
+    ensures { result ≡ part_of_kind outcome scope.now (lexeme found.now).text found.now.kind }
 {
-    match token.kind {
-        Lexical::Word => match scope.slot_of(token.text) {
+    match found.kind {
+        TokenKind::Word => match scope.slot_of(found.text) {
             Some(slot) => Some(Part::Slot(slot)),
             None => None,
         },
-        Lexical::Number => match number(token.text) {
+        TokenKind::Number => match number(found.text) {
             Some(n) => Some(Part::Number(n)),
             None => None,
         },
-        Lexical::Backslash if outcome && token.text == b"\\result".as_slice() => Some(
+        TokenKind::Backslash if outcome && found.text == b"\\result".as_slice() => Some(
             Part::Outcome,
         ),
         _ => None,
@@ -49,12 +50,13 @@ fn part_of(token: &Token<'_>, outcome: bool, scope: &Names<'_>) -> Option<Part>
 }
 
 fn part(cursor: &mut Cursor<'_>, setting: Setting, scope: &Names<'_>) -> Result<Part, Stop>
-    ensures shorter { IfOk result (λ part. length cursor.new.rest.now < length cursor.old.rest.now) }
-    ensures reads { Reads (part_in setting.note setting.outcome scope.now cursor.old.rest.now) result cursor.new.rest.now }
+    ensures shorter { IfOk result (λ part. length (seen cursor.new) < length (seen cursor.old)) }
+    ensures reads { Reads (part_in setting.note setting.outcome scope.now (seen cursor.old)) result (seen cursor.new) }
 {
     match cursor.rest {
         [token, rest @ ..] if token.note == setting.note => {
-            let Some(part) = part_of(token, setting.outcome, scope) else {
+            let found = lexeme_at(cursor.text, token);
+            let Some(part) = part_of(&found, setting.outcome, scope) else {
                 return Err(Stop::Refused);
             };
             cursor.rest = rest;
@@ -66,13 +68,13 @@ fn part(cursor: &mut Cursor<'_>, setting: Setting, scope: &Names<'_>) -> Result<
 
 /// The next token as an operator, with its offset; without one nothing is taken.
 fn operator(cursor: &mut Cursor<'_>, note: bool) -> Option<(Operator, u32)>
-    ensures reads { operator_in note cursor.old.rest.now ≡ (result, cursor.new.rest.now) }
-    ensures shorter { Taken result cursor.old.rest.now cursor.new.rest.now }
+    ensures reads { operator_in note (seen cursor.old) ≡ (result, (seen cursor.new)) }
+    ensures shorter { Taken result (seen cursor.old) (seen cursor.new) }
 {
-    if let Ok(at) = cursor.expect(Lexical::Sign, note, b"+") {
+    if let Ok(at) = cursor.expect(TokenKind::Sign, note, b"+") {
         return Some((Operator::Plus, at));
     }
-    if let Ok(at) = cursor.expect(Lexical::Sign, note, b"-") {
+    if let Ok(at) = cursor.expect(TokenKind::Sign, note, b"-") {
         return Some((Operator::Minus, at));
     }
     None
@@ -83,8 +85,8 @@ fn next_operation(
     setting: Setting,
     scope: &Names<'_>,
 ) -> Result<Option<Operation>, Stop>
-    ensures reads { Reads (operation_in setting.note setting.outcome scope.now cursor.old.rest.now) result cursor.new.rest.now }
-    ensures shorter { IfOk result (λ operation. Taken operation cursor.old.rest.now cursor.new.rest.now) }
+    ensures reads { Reads (operation_in setting.note setting.outcome scope.now (seen cursor.old)) result (seen cursor.new) }
+    ensures shorter { IfOk result (λ operation. Taken operation (seen cursor.old) (seen cursor.new)) }
 {
     let Some((operator, at)) = operator(cursor, setting.note) else {
         return Ok(None);
@@ -99,8 +101,8 @@ fn operations(
     setting: Setting,
     scope: &Names<'_>,
 ) -> Result<List<Operation>, Stop>
-    ensures shorter { IfOk result (λ operations. length cursor.new.rest.now ≤ length cursor.old.rest.now) }
-    ensures reads { Reads (operations_in setting.note setting.outcome scope.now cursor.old.rest.now) result cursor.new.rest.now }
+    ensures shorter { IfOk result (λ operations. length (seen cursor.new) ≤ length (seen cursor.old)) }
+    ensures reads { Reads (operations_in setting.note setting.outcome scope.now (seen cursor.old)) result (seen cursor.new) }
 {
     let mut operations = List::new(alloc);
     while let Some(operation) = next_operation(cursor, setting, scope)? {
@@ -115,8 +117,8 @@ pub fn sum(
     setting: Setting,
     scope: &Names<'_>,
 ) -> Result<Sum, Stop>
-    ensures shorter { IfOk result (λ sum. length cursor.new.rest.now < length cursor.old.rest.now) }
-    ensures reads { Reads (sum_in setting.note setting.outcome scope.now cursor.old.rest.now) result cursor.new.rest.now }
+    ensures shorter { IfOk result (λ sum. length (seen cursor.new) < length (seen cursor.old)) }
+    ensures reads { Reads (sum_in setting.note setting.outcome scope.now (seen cursor.old)) result (seen cursor.new) }
 {
     let first = part(cursor, setting, scope)?;
     let rest = operations(alloc, cursor, setting, scope)?;
@@ -124,22 +126,22 @@ pub fn sum(
 }
 
 fn comparison(cursor: &mut Cursor<'_>) -> Result<Comparison, Stop>
-    ensures shorter { IfOk result (λ comparison. length cursor.new.rest.now < length cursor.old.rest.now) }
-    ensures reads { Reads (comparison_in cursor.old.rest.now) result cursor.new.rest.now }
+    ensures shorter { IfOk result (λ comparison. length (seen cursor.new) < length (seen cursor.old)) }
+    ensures reads { Reads (comparison_in (seen cursor.old)) result (seen cursor.new) }
 {
-    if let Ok(_) = cursor.expect(Lexical::Sign, true, b"<") {
+    if let Ok(_) = cursor.expect(TokenKind::Sign, true, b"<") {
         return Ok(Comparison::Less);
     }
-    if let Ok(_) = cursor.expect(Lexical::Sign, true, b"<=") {
+    if let Ok(_) = cursor.expect(TokenKind::Sign, true, b"<=") {
         return Ok(Comparison::AtMost);
     }
-    if let Ok(_) = cursor.expect(Lexical::Sign, true, b">") {
+    if let Ok(_) = cursor.expect(TokenKind::Sign, true, b">") {
         return Ok(Comparison::Greater);
     }
-    if let Ok(_) = cursor.expect(Lexical::Sign, true, b">=") {
+    if let Ok(_) = cursor.expect(TokenKind::Sign, true, b">=") {
         return Ok(Comparison::AtLeast);
     }
-    cursor.expect(Lexical::Sign, true, b"==")?;
+    cursor.expect(TokenKind::Sign, true, b"==")?;
     Ok(Comparison::Equal)
 }
 
@@ -149,8 +151,8 @@ pub fn condition(
     outcome: bool,
     scope: &Names<'_>,
 ) -> Result<Condition, Stop>
-    ensures shorter { IfOk result (λ condition. length cursor.new.rest.now < length cursor.old.rest.now) }
-    ensures reads { Reads (condition_in outcome scope.now cursor.old.rest.now) result cursor.new.rest.now }
+    ensures shorter { IfOk result (λ condition. length (seen cursor.new) < length (seen cursor.old)) }
+    ensures reads { Reads (condition_in outcome scope.now (seen cursor.old)) result (seen cursor.new) }
 {
     let setting = Setting {
         note: true,

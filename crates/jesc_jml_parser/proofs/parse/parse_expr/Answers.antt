@@ -1,7 +1,4 @@
-use Rattle.std.proofs.Common.{rules, ◌≡◌, ℕ, ◌-◌, ◌≤◌, IsTrue, Bool, List, length, drop, refl, subst, sym, ap, ◌∙◌, arith}
-use Rattle.std.specs.List.{list_all}
-use Rattle.jesc_ast.specs.Trees.{Expression, view}
-use Rattle.jesc_jml_parser.specs.Parsed.{lexemes_from, IsFound, IsAnswer, IsExpressionRefusal, whole, IsGiven}
+use Rattle.std.proofs.Common.{◌≡◌, ◌-◌, ◌≤◌, length, ◌∙◌, arith}
 use Rattle.jesc_jml_parser.proofs.Spanned.{are_within, are_few}
 use Rattle.jesc_jml_parser.proofs.Expressed.{found_is, answer_is, memory_told, few_turns, refusal_is}
 use Rattle.jesc_jml_parser.proofs.parse.parse_expr.Goals as goal

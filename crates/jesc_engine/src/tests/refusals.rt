@@ -1,0 +1,193 @@
+use crate::Status;
+use crate::tests::{Contents, NOTHING, UP, ends_so};
+use std::test::Fail;
+
+/// Four quantifiers, one in another.
+const DEEP: &str = "class A {
+  //@ requires (\\forall int a; 0 <= a && a < 1; (\\forall int b; 0 <= b && b < 1; (\\forall int c; 0 <= c && c < 1; (\\forall int d; 0 <= d && d < 1; true))));
+  static void f() { }
+}
+";
+
+#[test]
+fn a_file_is_refused(rt: HostRuntime) -> Result<(), Fail> {
+    let cases: [(&[u8], &str); 13] = [
+        (
+            b"class A { } // \\u0041 \xff\n",
+            "A.java:1:23: refused: L1 not UTF-8\n",
+        ),
+        (
+            b"class Cut {\n  /*@ ensures",
+            "A.java:2:3: refused: L2 comment not closed\n",
+        ),
+        (
+            b"class A { int x = 3; # }\n",
+            "A.java:1:22: refused: L3 character not in the grammar: #\n",
+        ),
+        (
+            b"class A { int x = 1__; }\n",
+            "A.java:1:19: refused: L4 bad number\n",
+        ),
+        (
+            b"class A { # } // \\u0041\n",
+            "A.java:1:18: refused: L5 Unicode escape\n",
+        ),
+        (
+            b"class A { } //+ESC@ ensures true;\n",
+            "A.java:1:13: refused: L6 conditional annotation\n",
+        ),
+        (
+            b"class A { int x = ; }\n",
+            "A.java:1:19: refused: S1 unexpected token: ;\n",
+        ),
+        (
+            b"class A {\n",
+            "A.java:2:1: refused: S1 unexpected token: end of file\n",
+        ),
+        (
+            b"import x; class A { }\n",
+            "A.java:1:1: refused: S2 left-out word: import\n",
+        ),
+        (
+            DEEP.as_bytes(),
+            "A.java:2:116: refused: S3 nested too deeply\n",
+        ),
+        (
+            b"class A { int x; }\n",
+            "A.java:1:11: refused: P1 outside the first profile: int\n",
+        ),
+        (
+            b"class Asm {\n  static void f(int x) {\n    //@ assume x > 0;\n  }\n}\n",
+            "A.java:3:9: refused: S2 left-out word: assume\n",
+        ),
+        (
+            b"interface I {\n  //@ ensures \\result > 0;\n  int m();\n}\n",
+            "A.java:1:1: refused: P1 outside the first profile: interface\n",
+        ),
+    ];
+    for (content, err) in cases {
+        assert!(rt;
+            ends_so(
+                rt.alloc(),
+                &["--esc", "A.java"],
+                &[("A.java", content)],
+                (&[], &[], &[]),
+                (Status::Refused, "", err)
+            )?
+        );
+    }
+    Ok(())
+}
+
+#[test]
+fn the_first_refusal_ends_the_call(rt: HostRuntime) -> Result<(), Fail> {
+    let files: Contents = &[
+        ("Up.java", UP.as_bytes()),
+        ("Cut.java", b"class Cut {\n  /*@ ensures"),
+        ("Field.java", b"class A { int x; }\n"),
+        ("Value.java", b"class A { int x = ; }\n"),
+    ];
+    let cases: [(&[&str], Status, &str); 7] = [
+        // a class has the name of an earlier one
+        (
+            &["--esc", "Up.java", "Up.java"],
+            Status::Refused,
+            "Up.java:1:7: refused: P1 outside the first profile: Up\n",
+        ),
+        // the files are read in their order
+        (
+            &["--esc", "Missing.java", "Cut.java"],
+            Status::ReadFault,
+            "Missing.java: cannot read\n",
+        ),
+        (
+            &["--esc", "Cut.java", "Missing.java"],
+            Status::Refused,
+            "Cut.java:2:3: refused: L2 comment not closed\n",
+        ),
+        (
+            &["--esc", "Up.java", "Missing.java"],
+            Status::ReadFault,
+            "Missing.java: cannot read\n",
+        ),
+        (
+            &["--esc", "Up.java", "Field.java"],
+            Status::Refused,
+            "Field.java:1:11: refused: P1 outside the first profile: int\n",
+        ),
+        // what leaves the first profile comes behind all other refusals
+        (
+            &["--esc", "Field.java", "Value.java"],
+            Status::Refused,
+            "Value.java:1:19: refused: S1 unexpected token: ;\n",
+        ),
+        (
+            &["--esc", "Field.java", "Missing.java"],
+            Status::ReadFault,
+            "Missing.java: cannot read\n",
+        ),
+    ];
+    for (words, status, err) in cases {
+        assert!(rt; ends_so(rt.alloc(), words, files, (&[], &[], &[]), (status, "", err))?);
+    }
+    Ok(())
+}
+
+#[test]
+fn a_large_file_is_refused(rt: HostRuntime) -> Result<(), Fail> {
+    let at = vec![in rt.alloc(); 32u8; 1048576]?;
+    let over = vec![in rt.alloc(); 32u8; 1048577]?;
+    let cases: [(&[u8], Status, &str, &str); 2] = [
+        (at.as_slice(), Status::Verified, NOTHING, ""),
+        (
+            over.as_slice(),
+            Status::Refused,
+            "",
+            "Spaces.java: refused: F1 file too large\n",
+        ),
+    ];
+    for (content, status, out, err) in cases {
+        assert!(rt;
+            ends_so(
+                rt.alloc(),
+                &["--esc", "Spaces.java"],
+                &[("Spaces.java", content)],
+                (&[], &[], &[]),
+                (status, out, err)
+            )?
+        );
+    }
+    Ok(())
+}
+
+#[test]
+fn files_too_large_together_are_refused(rt: HostRuntime) -> Result<(), Fail> {
+    let spaces = vec![in rt.alloc(); 32u8; 1048576]?;
+    let files: Contents = &[("Spaces.java", spaces.as_slice()), ("One.java", b"\n")];
+    let mut at = ["Spaces.java"; 9];
+    at[0] = "--esc";
+    let mut over = ["Spaces.java"; 10];
+    over[0] = "--esc";
+    over[9] = "One.java";
+    let cases: [(&[&str], Status, &str, &str); 2] = [
+        (&at, Status::Verified, NOTHING, ""),
+        (
+            &over,
+            Status::Refused,
+            "",
+            "refused: F2 files too large together: 8388609\n",
+        ),
+    ];
+    for (words, status, out, err) in cases {
+        assert!(rt;
+            ends_so(
+                rt.alloc(),
+                words,
+                files,
+                (&[], &[], &[]),
+                (status, out, err)
+            )?
+        );
+    }
+    Ok(())
+}

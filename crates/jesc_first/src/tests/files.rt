@@ -1,0 +1,80 @@
+use crate::tests::Want;
+
+/// Texts of whole files.
+pub const FILES: [(&str, Want); 45] = [
+    ("class A { }", Want::Methods(0)),
+    ("class A{}", Want::Methods(0)),
+    ("class A { static void f() { } }", Want::Methods(1)),
+    (
+        "class A { static void f() { } static int g(int x) { return x; } }",
+        Want::Methods(2),
+    ),
+    (
+        "class A {\n//@ requires x < 5; ensures \\result == x + 1;\nstatic int f(int x) { return x + 1; } }",
+        Want::Methods(1),
+    ),
+    (
+        "class A {\n//@ requires x\n//@@@ <= 5\n//@\n//@ ;\nstatic void f(int x) { } }",
+        Want::Methods(1),
+    ),
+    (
+        "class A { static void f(int x) { int y = x - 1 + 2; y = 0;\n//@ assert y >= x;\n } }",
+        Want::Methods(1),
+    ),
+    (
+        "class A { static void f() { int a = 2147483647; } }",
+        Want::Methods(1),
+    ),
+    (
+        "class A { static void A(int A) { A = 1; } }",
+        Want::Methods(1),
+    ),
+    ("\tclass\x0cA\r{\n}\n", Want::Methods(0)),
+    ("", Want::Classes(0)),
+    ("class A {", Want::End),
+    ("class A { }\n ", Want::Methods(0)),
+    ("class A { } x", Want::Token(12, 13)),
+    ("class A { int x; }", Want::Token(10, 13)),
+    ("class class { }", Want::Token(6, 11)),
+    ("class _ { }", Want::Token(6, 7)),
+    ("class true { }", Want::Token(6, 10)),
+    ("Class A { }", Want::Token(0, 5)),
+    ("class A$ { }", Want::Token(6, 8)),
+    ("class A { / }", Want::Token(10, 11)),
+    ("class A { * }", Want::Token(10, 11)),
+    ("class A { \\old }", Want::Token(10, 14)),
+    ("class \u{e9} { }", Want::Token(6, 8)),
+    ("//@ class A { }", Want::Token(4, 9)),
+    ("class A { // x\n }", Want::Methods(0)),
+    ("class A { }\n//@ x", Want::Token(16, 17)),
+    ("class A { )", Want::Token(10, 11)),
+    ("// a", Want::Classes(0)),
+    ("/* a */ class /* b */ A { /* c */ } // d", Want::Methods(0)),
+    (
+        "class A { /*@ requires x < 5; */ static void f(int x) { } }",
+        Want::Methods(1),
+    ),
+    (
+        "class A {\n/*@ requires x\n  @ < 5;\n  @*/\nstatic void f(int x) { /*@ assert x < 5; */ } }",
+        Want::Methods(1),
+    ),
+    (
+        "class A { /* requires x < ; */ static void f() { } }",
+        Want::Methods(1),
+    ),
+    ("class A { } class B { }", Want::Classes(2)),
+    ("class A { } class B { } class C { }", Want::Classes(3)),
+    (
+        "class A { static void f() { } } class B { static void f() { } static void A() { } }",
+        Want::Classes(2),
+    ),
+    ("class A { } class A { }", Want::Token(18, 19)),
+    ("class A { } class B { } class A { )", Want::Token(30, 31)),
+    ("class A { } class B {", Want::End),
+    ("class A { } class", Want::End),
+    ("class A { } class B", Want::End),
+    ("class A { } }", Want::Token(12, 13)),
+    ("class A { } ; class B { }", Want::Token(12, 13)),
+    ("class A { } class B { } )", Want::Token(24, 25)),
+    ("class A { class B { } }", Want::Token(10, 15)),
+];

@@ -1,0 +1,6 @@
+pub mod Heads
+pub mod ListTurns
+pub mod StatementNodes
+pub mod CatchEnds
+pub mod Room
+pub mod LineStarts

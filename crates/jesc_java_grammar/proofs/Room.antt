@@ -1,0 +1,5 @@
+-- Where there is room for a node.
+use Rattle.std.proofs.Common.{◌≡◌, ℕ, suc, ◌-◌, ◌<◌, ap, arith}
+
+pub some_room : {X : Type 0} (f : ℕ → X) (n : ℕ) → 0 < n → f n ≡ f (suc (n - 1))
+some_room f n some = let e : n ≡ suc (n - 1) = omega arith in ap f e

@@ -1,0 +1,12 @@
+use Rattle.std.proofs.Common.{◌≡◌, ◌-◌, []}
+use Rattle.jesc_jml_grammar.specs.Reading.{turns}
+use Rattle.jesc_jml_grammar.specs.Seen.{seen, IsKept}
+use Rattle.jesc_java_grammar.specs.FileViews.{more_param_modifiers}
+use Rattle.jesc_java_grammar.proofs.files.Files.param_modifiers.Given as goal
+
+abbrev pub invariant-loop-turn : goal.invariant-loop-turn
+invariant-loop-turn l = record {
+  same : more_param_modifiers turns [] (seen l.fn.cursor) ≡ more_param_modifiers (l.turns - l._turn) l.words (seen l.cursor);
+  kept : IsKept l.fn.cursor l.cursor;
+  turns : l.turns ≡ turns;
+}

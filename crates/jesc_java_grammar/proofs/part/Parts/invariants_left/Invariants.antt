@@ -1,0 +1,17 @@
+use Rattle.std.proofs.Common.{◌≡◌, ◌-◌, ◌≤◌}
+use Rattle.std.specs.Prelude.{map}
+use Rattle.jesc_ast.specs.Trees.{clause_view}
+use Rattle.jesc_jml_grammar.specs.Reading.{turns}
+use Rattle.jesc_jml_grammar.specs.Seen.{seen, IsKept}
+use Rattle.jesc_jml_grammar.specs.ClauseSeen.{measured}
+use Rattle.jesc_java_grammar.specs.Views.{invariants_left}
+use Rattle.jesc_java_grammar.proofs.part.Parts.invariants_left.Given as goal
+
+abbrev pub invariant-loop-turn : goal.invariant-loop-turn
+invariant-loop-turn l = record {
+  same : invariants_left l.self.room turns (measured (map clause_view) l.fn.first) (seen l.fn.cursor)
+      ≡ invariants_left l.self.room (l.turns - l._turn) (measured (map clause_view) l.found) (seen l.cursor);
+  kept : IsKept l.fn.cursor l.cursor;
+  turns : l.turns ≡ turns;
+  within : l.found.depth ≤ l.self.room;
+}

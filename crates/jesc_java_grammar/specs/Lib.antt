@@ -1,0 +1,13 @@
+pub mod Lexing
+pub mod StatementMarks
+pub mod StatementFound
+pub mod StatementReading
+pub mod FileMarks
+pub mod FileReading
+pub mod Views
+pub mod StatementNests
+pub mod UnitViews
+pub mod GivenUnits
+pub mod ClassViews
+pub mod StatementSeen
+pub mod FileViews

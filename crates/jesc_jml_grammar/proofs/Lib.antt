@@ -1,0 +1,4 @@
+pub mod Turns
+pub mod ListTurns
+pub mod StoreTurns
+pub mod Room

@@ -1,0 +1,2 @@
+-- A turn of a list's rule, beside a loop that counts up.
+pub use Rattle.jesc_jml_grammar.specs.ListTurns.{until_stops, until_goes_on, until_ends}

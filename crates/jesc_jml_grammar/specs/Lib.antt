@@ -1,0 +1,15 @@
+pub mod Marks
+pub mod Steps
+pub mod Seen
+pub mod ExpressionMarks
+pub mod Found
+pub mod Reading
+pub mod Tails
+pub mod Nests
+pub mod Refining
+pub mod ClauseMarks
+pub mod ClauseLists
+pub mod ListTurns
+pub mod ClauseFound
+pub mod ClauseReading
+pub mod ClauseSeen

@@ -1,0 +1,391 @@
+//! Store references.
+
+ghost use Rattle.std.specs.Prelude.{◌≡◌, ◌<◌, ◌≤◌, true, IfOk};
+ghost use Rattle.jesc_ast.specs.SpecTrees.{store_view};
+ghost use Rattle.jesc_jml_grammar.specs.Reading as spec;
+ghost use Rattle.jesc_jml_grammar.specs.Steps.{Reads};
+ghost use Rattle.jesc_jml_grammar.specs.Seen.{seen, lexeme, IsKept};
+ghost use Rattle.jesc_jml_grammar.specs.Nests.{Nests, parsed};
+ghost use Rattle.jesc_jml_grammar.specs.ClauseReading as rules;
+ghost use Rattle.jesc_jml_grammar.specs.ClauseSeen as views;
+ghost use Rattle.jesc_jml_grammar.specs.ClauseSeen.{note_rule, measured, path_of, step_of, IsWithin, IsStepWithin};
+
+use crate::cursor::{Cursor, Lexeme};
+use crate::fault::{Fault, ParseError};
+use crate::found::{Found, Start};
+use crate::grammar::{Grammar, turns};
+use crate::make::{leaf, text_of};
+use crate::make_store::{close_path, make_all, make_member_path, make_range, make_star, store_of};
+use crate::mark::Mark;
+use crate::note_word::{NoteWord, same_word};
+use crate::part::{Measured, Path, StoreStep};
+use crate::step::same_mark;
+use jesc_ast::{ExprNode, StoreNode, StoreTree};
+use jesc_text::{List, OutOfMemory};
+use std::alloc::Global;
+
+fn opens_path(mark: Mark) -> bool
+    ensures { result ≡ note_rule rules.opens_path 0 0 mark }
+{
+    match mark {
+        Mark::Name | Mark::This => true,
+        _ => false,
+    }
+}
+
+impl<
+    F: Fn(Global, &mut Cursor<'_>, usize, usize, usize, Start<'_>) -> Result<Found, ParseError>,
+> Grammar<F> {
+    /// An expression of an annotation.
+    pub fn expression(&self, cursor: &mut Cursor<'_>) -> Result<Found, ParseError>
+        requires nests { Nests self.now.room (F.pre self.now.expr) (F.post self.now.expr) }
+        requires side { cursor.old.note ≡ true }
+        ensures reads { Reads parsed (note_rule rules.expression self.now.room self.now.quantifiers (seen cursor.old)) result (seen cursor.new) }
+        ensures kept { IsKept cursor.old cursor.new }
+        ensures bounded { IfOk result (λ f. f.depth ≤ self.now.room) }
+    {
+        self.inner(cursor, self.quantifiers, 1, Start::AtFirst)
+    }
+
+    #[tactic(auto, unfolding(crate::specs::ClauseReading::path_name))]
+    fn path_name<'a>(&self, cursor: &mut Cursor<'a>) -> Result<Path<'a>, ParseError>
+        requires side { cursor.old.note ≡ true }
+        requires some { 0 < self.now.room }
+        ensures reads { Reads path_of (note_rule rules.path_name self.now.room self.now.quantifiers (seen cursor.old)) result (seen cursor.new) }
+        ensures kept { IsKept cursor.old cursor.new }
+        ensures within { IfOk result (IsWithin self.now.room) }
+    {
+        let x = cursor.expect_note(Mark::Name)?;
+        Ok(Path::Plain(leaf(x.span, ExprNode::Name(text_of(self.alloc, x.text)?))))
+    }
+
+    #[tactic(auto, unfolding(crate::specs::ClauseReading::path_this))]
+    fn path_this<'a>(&self, cursor: &mut Cursor<'a>) -> Result<Path<'a>, ParseError>
+        requires side { cursor.old.note ≡ true }
+        requires some { 0 < self.now.room }
+        ensures reads { Reads path_of (note_rule rules.path_this self.now.room self.now.quantifiers (seen cursor.old)) result (seen cursor.new) }
+        ensures kept { IsKept cursor.old cursor.new }
+        ensures within { IfOk result (IsWithin self.now.room) }
+    {
+        let x = cursor.expect_note(Mark::This)?;
+        Ok(Path::Plain(leaf(x.span, ExprNode::This)))
+    }
+
+    fn path_by<'a>(&self, cursor: &mut Cursor<'a>, mark: Mark) -> Result<Path<'a>, ParseError>
+        requires side { cursor.old.note ≡ true }
+        requires some { 0 < self.now.room }
+        ensures reads { Reads path_of (note_rule rules.path_by self.now.room self.now.quantifiers mark (seen cursor.old)) result (seen cursor.new) }
+        ensures kept { IsKept cursor.old cursor.new }
+        ensures within { IfOk result (IsWithin self.now.room) }
+    {
+        match mark {
+            Mark::Name => self.path_name(cursor),
+            Mark::This => self.path_this(cursor),
+            _ => Err(cursor.refuse()),
+        }
+    }
+
+    /// What a path begins with.
+    #[tactic(auto, unfolding(crate::specs::ClauseReading::path_first))]
+    fn path_first<'a>(&self, cursor: &mut Cursor<'a>) -> Result<Path<'a>, ParseError>
+        requires side { cursor.old.note ≡ true }
+        ensures reads { Reads path_of (note_rule rules.path_first self.now.room self.now.quantifiers (seen cursor.old)) result (seen cursor.new) }
+        ensures kept { IsKept cursor.old cursor.new }
+        ensures within { IfOk result (IsWithin self.now.room) }
+    {
+        let mark = cursor.peek();
+        if !opens_path(mark) {
+            return Err(cursor.refuse());
+        }
+        if self.room == 0 {
+            return Err(cursor.too_deep());
+        }
+        self.path_by(cursor, mark)
+    }
+
+    #[tactic(auto, unfolding(crate::specs::ClauseReading::starred))]
+    fn starred<'a>(&self, cursor: &mut Cursor<'a>, e: Found) -> Result<StoreStep<'a>, ParseError>
+        requires side { cursor.old.note ≡ true }
+        ensures reads { Reads step_of (note_rule rules.starred self.now.room self.now.quantifiers (parsed e) (seen cursor.old)) result (seen cursor.new) }
+        ensures kept { IsKept cursor.old cursor.new }
+        ensures within { IfOk result (IsStepWithin self.now.room) }
+    {
+        let last = cursor.expect_note(Mark::Times)?;
+        Ok(StoreStep::IsRead(make_star(e, last)))
+    }
+
+    #[tactic(auto, unfolding(crate::specs::ClauseReading::path_member))]
+    fn path_member<'a>(
+        &self,
+        cursor: &mut Cursor<'a>,
+        e: Found,
+        dot: Lexeme<'a>,
+    ) -> Result<StoreStep<'a>, ParseError>
+        requires side { cursor.old.note ≡ true }
+        requires room { self.now.room < 1000 }
+        requires fits { e.depth < self.now.room }
+        ensures reads { Reads step_of (note_rule rules.path_member self.now.room self.now.quantifiers (parsed e) (lexeme dot.entry) (seen cursor.old)) result (seen cursor.new) }
+        ensures kept { IsKept cursor.old cursor.new }
+        ensures within { IfOk result (IsStepWithin self.now.room) }
+    {
+        let x = cursor.expect_note(Mark::Name)?;
+        Ok(StoreStep::GoesOn(make_member_path(self.alloc, e, dot, x)?))
+    }
+
+    fn behind_dot_by<'a>(
+        &self,
+        cursor: &mut Cursor<'a>,
+        e: Found,
+        dot: Lexeme<'a>,
+        mark: Mark,
+    ) -> Result<StoreStep<'a>, ParseError>
+        requires side { cursor.old.note ≡ true }
+        requires room { self.now.room < 1000 }
+        requires fits { e.depth ≤ self.now.room }
+        ensures reads { Reads step_of (note_rule rules.behind_dot_by self.now.room self.now.quantifiers (parsed e) (lexeme dot.entry) mark (seen cursor.old)) result (seen cursor.new) }
+        ensures kept { IsKept cursor.old cursor.new }
+        ensures within { IfOk result (IsStepWithin self.now.room) }
+    {
+        match mark {
+            Mark::Times => self.starred(cursor, e),
+            Mark::Name => {
+                if e.depth == self.room {
+                    Err(cursor.too_deep())
+                } else {
+                    self.path_member(cursor, e, dot)
+                }
+            }
+            _ => Err(cursor.refuse()),
+        }
+    }
+
+    #[tactic(auto, unfolding(crate::specs::ClauseReading::path_dotted))]
+    fn path_dotted<'a>(
+        &self,
+        cursor: &mut Cursor<'a>,
+        e: Found,
+    ) -> Result<StoreStep<'a>, ParseError>
+        requires side { cursor.old.note ≡ true }
+        requires room { self.now.room < 1000 }
+        requires fits { e.depth ≤ self.now.room }
+        ensures reads { Reads step_of (note_rule rules.path_dotted self.now.room self.now.quantifiers (parsed e) (seen cursor.old)) result (seen cursor.new) }
+        ensures kept { IsKept cursor.old cursor.new }
+        ensures within { IfOk result (IsStepWithin self.now.room) }
+    {
+        let dot = cursor.expect_note(Mark::Dot)?;
+        let mark = cursor.peek();
+        self.behind_dot_by(cursor, e, dot, mark)
+    }
+
+    #[tactic(auto, unfolding(crate::specs::ClauseReading::all_starred))]
+    fn all_starred<'a>(
+        &self,
+        cursor: &mut Cursor<'a>,
+        e: Found,
+    ) -> Result<StoreStep<'a>, ParseError>
+        requires side { cursor.old.note ≡ true }
+        ensures reads { Reads step_of (note_rule rules.all_starred self.now.room self.now.quantifiers (parsed e) (seen cursor.old)) result (seen cursor.new) }
+        ensures kept { IsKept cursor.old cursor.new }
+        ensures within { IfOk result (IsStepWithin self.now.room) }
+    {
+        cursor.expect_note(Mark::Times)?;
+        let last = cursor.expect_note(Mark::RightBracket)?;
+        Ok(StoreStep::IsRead(make_all(e, last)))
+    }
+
+    /// Behind the bounds of a range.
+    fn range_ending<'a>(
+        &self,
+        cursor: &mut Cursor<'a>,
+        e: Found,
+        low: Found,
+        high: Found,
+    ) -> Result<StoreStep<'a>, ParseError>
+        requires side { cursor.old.note ≡ true }
+        ensures reads { Reads step_of (views.range_ending (parsed e) (parsed low) (parsed high) (seen cursor.old)) result (seen cursor.new) }
+        ensures kept { IsKept cursor.old cursor.new }
+        ensures within { IfOk result (IsStepWithin self.now.room) }
+    {
+        let last = cursor.expect_note(Mark::RightBracket)?;
+        Ok(StoreStep::IsRead(make_range(e, low, high, last)))
+    }
+
+    /// Behind the first bound of a range.
+    #[tactic(auto, unfolding(crate::specs::ClauseReading::ranged))]
+    fn ranged<'a>(
+        &self,
+        cursor: &mut Cursor<'a>,
+        e: Found,
+        low: Found,
+    ) -> Result<StoreStep<'a>, ParseError>
+        requires nests { Nests self.now.room (F.pre self.now.expr) (F.post self.now.expr) }
+        requires side { cursor.old.note ≡ true }
+        ensures reads { Reads step_of (note_rule rules.ranged self.now.room self.now.quantifiers (parsed e) (parsed low) (seen cursor.old)) result (seen cursor.new) }
+        ensures kept { IsKept cursor.old cursor.new }
+        ensures within { IfOk result (IsStepWithin self.now.room) }
+    {
+        cursor.expect_word(NoteWord::Range)?;
+        let high = self.expression(cursor)?;
+        self.range_ending(cursor, e, low, high)
+    }
+
+    #[tactic(auto, unfolding(crate::specs::ClauseReading::path_index))]
+    fn path_index<'a>(
+        &self,
+        cursor: &mut Cursor<'a>,
+        e: Found,
+        bracket: Lexeme<'a>,
+        i: Found,
+    ) -> Result<StoreStep<'a>, ParseError>
+        requires side { cursor.old.note ≡ true }
+        requires fits { e.depth ≤ self.now.room }
+        requires index { i.depth ≤ self.now.room }
+        ensures reads { Reads step_of (note_rule rules.path_index self.now.room self.now.quantifiers (parsed e) (lexeme bracket.entry) (parsed i) (seen cursor.old)) result (seen cursor.new) }
+        ensures kept { IsKept cursor.old cursor.new }
+        ensures within { IfOk result (IsStepWithin self.now.room) }
+    {
+        let last = cursor.expect_note(Mark::RightBracket)?;
+        Ok(StoreStep::GoesOn(Path::WithIndex(e, bracket, i, last)))
+    }
+
+    /// An index, or the bounds of a range.
+    #[tactic(auto, unfolding(crate::specs::ClauseReading::bounded_by))]
+    fn bounded_by<'a>(
+        &self,
+        cursor: &mut Cursor<'a>,
+        e: Found,
+        bracket: Lexeme<'a>,
+    ) -> Result<StoreStep<'a>, ParseError>
+        requires nests { Nests self.now.room (F.pre self.now.expr) (F.post self.now.expr) }
+        requires side { cursor.old.note ≡ true }
+        requires fits { e.depth ≤ self.now.room }
+        ensures reads { Reads step_of (note_rule rules.bounded_by self.now.room self.now.quantifiers (parsed e) (lexeme bracket.entry) (seen cursor.old)) result (seen cursor.new) }
+        ensures kept { IsKept cursor.old cursor.new }
+        ensures within { IfOk result (IsStepWithin self.now.room) }
+    {
+        let i = self.expression(cursor)?;
+        if same_word(cursor.peek_word(), NoteWord::Range) {
+            self.ranged(cursor, e, i)
+        } else {
+            self.path_index(cursor, e, bracket, i)
+        }
+    }
+
+    #[tactic(auto, unfolding(crate::specs::ClauseReading::path_bracketed))]
+    fn path_bracketed<'a>(
+        &self,
+        cursor: &mut Cursor<'a>,
+        e: Found,
+    ) -> Result<StoreStep<'a>, ParseError>
+        requires nests { Nests self.now.room (F.pre self.now.expr) (F.post self.now.expr) }
+        requires side { cursor.old.note ≡ true }
+        requires fits { e.depth ≤ self.now.room }
+        ensures reads { Reads step_of (note_rule rules.path_bracketed self.now.room self.now.quantifiers (parsed e) (seen cursor.old)) result (seen cursor.new) }
+        ensures kept { IsKept cursor.old cursor.new }
+        ensures within { IfOk result (IsStepWithin self.now.room) }
+    {
+        let bracket = cursor.expect_note(Mark::LeftBracket)?;
+        if same_mark(cursor.peek(), Mark::Times) {
+            self.all_starred(cursor, e)
+        } else {
+            self.bounded_by(cursor, e, bracket)
+        }
+    }
+
+    fn longer_by_dot<'a>(
+        &self,
+        cursor: &mut Cursor<'a>,
+        path: Path<'a>,
+    ) -> Result<StoreStep<'a>, ParseError>
+        requires side { cursor.old.note ≡ true }
+        requires room { self.now.room < 1000 }
+        requires fits { IsWithin self.now.room path }
+        ensures reads { Reads step_of (views.longer_by self.now.room self.now.quantifiers rules.path_dotted (path_of path.entry) (seen cursor.old)) result (seen cursor.new) }
+        ensures kept { IsKept cursor.old cursor.new }
+        ensures within { IfOk result (IsStepWithin self.now.room) }
+    {
+        let e = close_path(self.alloc, path)?;
+        if e.depth > self.room {
+            return Err(cursor.too_deep());
+        }
+        self.path_dotted(cursor, e)
+    }
+
+    fn longer_by_bracket<'a>(
+        &self,
+        cursor: &mut Cursor<'a>,
+        path: Path<'a>,
+    ) -> Result<StoreStep<'a>, ParseError>
+        requires nests { Nests self.now.room (F.pre self.now.expr) (F.post self.now.expr) }
+        requires side { cursor.old.note ≡ true }
+        requires room { self.now.room < 1000 }
+        requires fits { IsWithin self.now.room path }
+        ensures reads { Reads step_of (views.longer_by self.now.room self.now.quantifiers rules.path_bracketed (path_of path.entry) (seen cursor.old)) result (seen cursor.new) }
+        ensures kept { IsKept cursor.old cursor.new }
+        ensures within { IfOk result (IsStepWithin self.now.room) }
+    {
+        let e = close_path(self.alloc, path)?;
+        if e.depth > self.room {
+            return Err(cursor.too_deep());
+        }
+        self.path_bracketed(cursor, e)
+    }
+
+    #[tactic(auto, unfolding(crate::specs::ClauseReading::store_step))]
+    fn store_step<'a>(
+        &self,
+        cursor: &mut Cursor<'a>,
+        path: Path<'a>,
+    ) -> Result<StoreStep<'a>, ParseError>
+        requires nests { Nests self.now.room (F.pre self.now.expr) (F.post self.now.expr) }
+        requires side { cursor.old.note ≡ true }
+        requires room { self.now.room < 1000 }
+        requires fits { IsWithin self.now.room path }
+        ensures reads { Reads step_of (note_rule rules.store_step self.now.room self.now.quantifiers (path_of path.entry) (seen cursor.old)) result (seen cursor.new) }
+        ensures kept { IsKept cursor.old cursor.new }
+        ensures within { IfOk result (IsStepWithin self.now.room) }
+    {
+        match cursor.peek() {
+            Mark::Dot => self.longer_by_dot(cursor, path),
+            Mark::LeftBracket => self.longer_by_bracket(cursor, path),
+            _ => Ok(StoreStep::IsRead(store_of(path))),
+        }
+    }
+
+    #[tactic(auto, using(crate::proofs::StoreTurns::store_goes_on, crate::proofs::StoreTurns::store_ends))]
+    fn store_behind<'a>(
+        &self,
+        cursor: &mut Cursor<'a>,
+        first: Path<'a>,
+    ) -> Result<Measured<StoreTree>, ParseError>
+        requires nests { Nests self.now.room (F.pre self.now.expr) (F.post self.now.expr) }
+        requires side { cursor.old.note ≡ true }
+        requires room { self.now.room < 1000 }
+        requires fits { IsWithin self.now.room first }
+        ensures reads { Reads (measured store_view) (views.stores_left self.now.room self.now.quantifiers spec.turns (path_of first.entry) (seen cursor.old)) result (seen cursor.new) }
+        ensures kept { IsKept cursor.old cursor.new }
+    {
+        let mut path = first;
+        let turns = turns();
+        for _turn in 0..turns {
+            match self.store_step(cursor, path)? {
+                StoreStep::GoesOn(next) => path = next,
+                StoreStep::IsRead(store) => return Ok(store),
+            }
+        }
+        Err(ParseError::Fault(Fault::Long))
+    }
+
+    /// A store reference.
+    #[tactic(auto, unfolding(crate::specs::ClauseReading::one_store))]
+    pub fn one_store(&self, cursor: &mut Cursor<'_>) -> Result<Measured<StoreTree>, ParseError>
+        requires nests { Nests self.now.room (F.pre self.now.expr) (F.post self.now.expr) }
+        requires side { cursor.old.note ≡ true }
+        requires room { self.now.room < 1000 }
+        ensures reads { Reads (measured store_view) (note_rule rules.one_store self.now.room self.now.quantifiers (seen cursor.old)) result (seen cursor.new) }
+        ensures kept { IsKept cursor.old cursor.new }
+    {
+        let path = self.path_first(cursor)?;
+        self.store_behind(cursor, path)
+    }
+}
