@@ -21,6 +21,3 @@ mod writing;
 
 pub use answer::{Answer, Finding, Judgement};
 pub use top::{Status, run};
-
-#[cfg(test)]
-mod tests;

@@ -6,8 +6,6 @@
 
 mod check;
 mod reader;
-#[cfg(test)]
-mod tests;
 mod tree;
 
 pub use check::{Check, Kind};

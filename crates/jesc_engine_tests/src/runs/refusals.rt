@@ -1,5 +1,5 @@
-use crate::Status;
-use crate::tests::{Contents, NOTHING, UP, ends_so};
+use crate::runs::{Contents, NOTHING, UP, ends_so};
+use jesc_engine::Status;
 use std::test::Fail;
 
 /// Four quantifiers, one in another.

@@ -1,5 +1,5 @@
-use crate::Status;
-use crate::tests::{Contents, NOTHING, SUM, UP, ends_so};
+use crate::runs::{Contents, NOTHING, SUM, UP, ends_so};
+use jesc_engine::Status;
 use std::test::Fail;
 
 const SPEC: &str = "class Spec {

@@ -1,5 +1,5 @@
-use crate::tests::{Contents, Faults, SUM, UP, Wanted, ends_so, words_of};
-use crate::{Status, run};
+use crate::runs::{Contents, Faults, SUM, UP, Wanted, ends_so, words_of};
+use jesc_engine::{Status, run};
 use jesc_io::{DiskFiles, MemSink};
 use jesc_text::List;
 use std::test::Fail;

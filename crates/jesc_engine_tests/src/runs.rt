@@ -1,4 +1,4 @@
-use crate::{Status, run};
+use jesc_engine::{Status, run};
 use jesc_io::{MemFiles, MemSink};
 use jesc_text::{List, OutOfMemory};
 use std::alloc::Global;

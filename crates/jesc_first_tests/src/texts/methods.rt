@@ -1,4 +1,4 @@
-use crate::tests::Want;
+use crate::texts::Want;
 
 /// Texts of classes with one or two methods.
 pub const METHODS: [(&str, Want); 74] = [

@@ -1,4 +1,4 @@
-use crate::tests::Want;
+use crate::texts::Want;
 
 /// Texts of whole files.
 pub const FILES: [(&str, Want); 45] = [

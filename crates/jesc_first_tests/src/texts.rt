@@ -3,8 +3,8 @@
 mod files;
 mod methods;
 
-use crate::{Class, Method, Names, Part, ReadError, Stmt, read_classes};
 use files::FILES;
+use jesc_first::{Class, Method, Names, Part, ReadError, Stmt, read_classes};
 use jesc_lexer::{Tokens, lex};
 use jesc_text::List;
 use methods::METHODS;
