@@ -180,8 +180,8 @@ fn put_specification(into: &mut Text, spec: &Option<SpecTree>) {
     }
 }
 
-fn put_result(into: &mut Text, result: &Option<TypeTree>) {
-    match result {
+fn put_result_type(into: &mut Text, answer: &Option<TypeTree>) {
+    match answer {
         Some(ty) => put_type(into, ty),
         None => put_token(into, b"void"),
     }
@@ -246,7 +246,7 @@ fn put_member(into: &mut Text, member: &MemberTree) {
         } => {
             put_counted(into, b"method", modifiers.as_slice().len());
             put_specification(into, spec);
-            put_result(into, result);
+            put_result_type(into, result);
             put_counted(into, name.text.as_slice(), params.as_slice().len());
             put_counted(into, b"throws", throws.as_slice().len());
             put_method_body(into, body);
