@@ -1,8 +1,7 @@
 -- How a call ends, from what it wrote.
-use Rattle.std.proofs.Common.{if◌then◌else◌, ◌≡◌, ◌≢◌, ℕ, inl, inr, Bool, true, false, List, Option, Result, Ok, Err, refl, sym, subst}
+use Rattle.std.proofs.Common.{if◌then◌else◌, ◌≡◌, ℕ, inl, inr, Bool, true, false, List, Option, Result, Ok, Err, refl, sym, subst}
 use Rattle.std.specs.List.{list_all}
 use Rattle.jesc_io.specs.Contents.{Store, Gains}
-use Rattle.jesc_io.specs.Faults.{Rose, HasCause}
 use Rattle.jesc_io.specs.declared.outside.IoError.{IoError}
 use Rattle.jesc_io.specs.declared.outside.IoError.TheVariants.{Failed}
 use Rattle.jesc_io.specs.declared.outside.IoError.TheVariants as io
@@ -38,10 +37,14 @@ complains told names reads reads' out err err' status line (Err error) complaint
     stops told names reads reads' out out err err' error (inr (inr part))
 
 -- the usage line was written, or a prefix of it
-pub says_usage : (out err err' : Option (List ℕ)) (written : Result Unit IoError) → Gains err err' usage_line written → EndsInUsage out out err err' (status_after Usage written)
-says_usage out err err' (Ok done) gained = (refl, gained)
-says_usage out err err' (Err Failed) gained = (refl, gained)
-says_usage out err err' (Err io.OutOfMemory) gained = (refl, gained)
+usage_after : (out err err' : Option (List ℕ)) (written : Result Unit IoError) → Gains err err' usage_line written → EndsInUsage out out err err' (status_after Usage written)
+usage_after out err err' (Ok done) gained = (refl, gained)
+usage_after out err err' (Err Failed) gained = (refl, gained)
+usage_after out err err' (Err io.OutOfMemory) gained = (refl, gained)
+
+pub says_usage : (out err err' : Option (List ℕ)) (status : Status) (written : Result Unit IoError) → status ≡ status_after Usage written
+    → Gains err err' usage_line written → EndsInUsage out out err err' status
+says_usage out err err' status written is gained = subst (EndsInUsage out out err err') (sym is) (usage_after out err err' written gained)
 
 verified_or_warned : (told : Option Store) (names : List (List ℕ)) (reads reads' : ℕ) (files : List FileReport) (out out' err : Option (List ℕ)) (all : Bool)
     → list_all (λ judgement. is_verified judgement.findings) (all_judgements files) ≡ all → Reports told names files out out' err err
@@ -59,27 +62,6 @@ reports told names reads reads' files out out' err (Err error) judges gained =
 reports told names reads reads' files out out' err (Ok done) judges gained =
     let whole : Reports told names files out out' err err = record { judges = judges; gained = gained; silent = refl } in
     verified_or_warned told names reads reads' files out out' err (list_all (λ judgement. is_verified judgement.findings) (all_judgements files)) refl whole
-
--- an answer that is no fault of writing becomes one only where the count rose
-pub write_fault : (before now : ℕ) (answer : Status) (written : Result Unit IoError) → answer ≢ WriteFault
-    → HasCause before now 0 0 written → status_after answer written ≡ WriteFault → Rose before now
-write_fault before now answer (Ok done) other cause is = absurd (other is)
-write_fault before now answer (Err Failed) other cause is = cause.1
-write_fault before now answer (Err io.OutOfMemory) other cause is = cc
-
--- what was answered is the answer, or stops
-pub answered : (answer status : Status) (written : Result Unit IoError) → status ≢ WriteFault → status ≢ OutOfMemory
-    → status_after answer written ≡ status → answer ≡ status
-answered answer status (Ok done) one two is = is
-answered answer status (Err Failed) one two is = absurd (one (sym is))
-answered answer status (Err io.OutOfMemory) one two is = absurd (two (sym is))
-
-verdict_is : (all : Bool) (status : Status) → status ≢ Verified → status ≢ Warned → (if all then Verified else Warned) ≡ status → ⊥
-verdict_is true status one two is = one (sym is)
-verdict_is false status one two is = two (sym is)
-
-pub verdict_other : (judgements : List Judgement) (status : Status) → status ≢ Verified → status ≢ Warned → verdict_of judgements ≡ status → ⊥
-verdict_other judgements status one two is = verdict_is (list_all (λ judgement. is_verified judgement.findings) judgements) status one two is
 
 -- what `Verified` says of the files
 pub verified_safe : (told : Option Store) (names : List (List ℕ)) (reads reads' : ℕ) (out out' err err' : Option (List ℕ)) (status : Status)
