@@ -4,3 +4,4 @@ pub mod StatementNodes
 pub mod CatchEnds
 pub mod Room
 pub mod LineStarts
+pub mod StatementRules

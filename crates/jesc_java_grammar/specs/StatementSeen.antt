@@ -10,9 +10,9 @@ use Rattle.jesc_jml_grammar.specs.ClauseLists.{until}
 use Rattle.jesc_java_grammar.specs.declared.statement_mark.Slot.{Slot}
 use Rattle.jesc_java_grammar.specs.declared.statement_mark.Slot.TheVariants as slots
 use Rattle.jesc_java_grammar.specs.Lexing.{is_word, next_is}
-use Rattle.jesc_java_grammar.specs.StatementMarks.{allows_branch}
+use Rattle.jesc_java_grammar.specs.StatementMarks.{allows_branch, peek_statement}
 use Rattle.jesc_java_grammar.specs.StatementFound.{ForHead, CatchHead, head_of, while_of, for_of, catch_of, attempt_of}
-use Rattle.jesc_java_grammar.specs.StatementReading.{optional_value, for_first, for_last, braced, catch_, some_catches, branch_}
+use Rattle.jesc_java_grammar.specs.StatementReading.{optional_value, for_first, for_last, for_head, loop_by, braced, catch_, some_catches, branch_}
 use Rattle.jesc_java_grammar.specs.StatementNests.{statement_within, over}
 use Rattle.jesc_java_grammar.specs.Views.{part}
 
@@ -51,6 +51,18 @@ for_turn room cs r head = do
   turn ← statement_within room slots.Then
   pure (for_of cs r head turn)
 
+-- behind the word `for`
+abbrev pub for_behind_word : ℕ → Sized (List Clause) → Lexeme → Parser (Sized Statement)
+for_behind_word room cs r = do
+  head ← over for_head room
+  for_turn room cs r head
+
+-- behind the invariants of a loop
+abbrev pub loop_behind : ℕ → Sized (List Clause) → Parser (Sized Statement)
+loop_behind room cs = do
+  mark ← peek_statement
+  over loop_by room cs mark
+
 -- ---- `try`
 
 -- behind what a `catch` begins with
@@ -68,6 +80,12 @@ abbrev pub attempt_ending : ℕ → Lexeme → Sized Body → Parser (Sized Stat
 attempt_ending room r b = do
   cs ← over some_catches room
   pure (attempt_of r b cs)
+
+-- behind the word `try`
+abbrev pub attempt_behind : ℕ → Lexeme → Parser (Sized Statement)
+attempt_behind room r = do
+  b ← over braced room
+  attempt_ending room r b
 
 -- ---- where they may stand, and where there is room for a node inside
 

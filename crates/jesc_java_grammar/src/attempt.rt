@@ -146,8 +146,25 @@ impl<S: Fn(Global, &mut Cursor<'_>, usize, Slot) -> Result<Measured<Stmt>, Parse
         Ok(make_attempt(first, body, catches))
     }
 
+    /// A `try`, behind this word.
+    fn attempt_behind(
+        &self,
+        cursor: &mut Cursor<'_>,
+        first: Lexeme<'_>,
+    ) -> Result<Measured<Stmt>, ParseError>
+        requires nests { NestsStatement self.now.room (S.pre self.now.statement) (S.post self.now.statement) }
+        requires room { self.now.room < 1000 }
+        requires side { cursor.old.note ≡ false }
+        ensures reads { Reads (measured statement_view) (views.attempt_behind self.now.room (lexeme first.entry) (seen cursor.old)) result (seen cursor.new) }
+        ensures kept { IsKept cursor.old cursor.new }
+        ensures bounded { IfOk result (λ f. f.depth ≤ self.now.room + 1) }
+    {
+        let body = self.braced(cursor)?;
+        self.attempt_ending(cursor, first, body)
+    }
+
     /// A `try`.
-    #[tactic(auto, unfolding(crate::specs::StatementReading::attempt_))]
+    #[tactic(auto, using(crate::proofs::StatementRules::attempt_rule))]
     pub fn attempt(&self, cursor: &mut Cursor<'_>) -> Result<Measured<Stmt>, ParseError>
         requires nests { NestsStatement self.now.room (S.pre self.now.statement) (S.post self.now.statement) }
         requires room { self.now.room < 1000 }
@@ -157,7 +174,6 @@ impl<S: Fn(Global, &mut Cursor<'_>, usize, Slot) -> Result<Measured<Stmt>, Parse
         ensures bounded { IfOk result (λ f. f.depth ≤ self.now.room + 1) }
     {
         let first = take_word(cursor, b"try")?;
-        let body = self.braced(cursor)?;
-        self.attempt_ending(cursor, first, body)
+        self.attempt_behind(cursor, first)
     }
 }

@@ -163,8 +163,28 @@ impl<S: Fn(Global, &mut Cursor<'_>, usize, Slot) -> Result<Measured<Stmt>, Parse
         Ok(make_for(self.alloc, invariants, first, head, turn)?)
     }
 
+    /// A `for`, behind this word.
+    fn for_behind_word(
+        &self,
+        cursor: &mut Cursor<'_>,
+        invariants: Measured<List<ClauseTree>>,
+        first: Lexeme<'_>,
+    ) -> Result<Measured<Stmt>, ParseError>
+        requires nests { NestsStatement self.now.room (S.pre self.now.statement) (S.post self.now.statement) }
+        requires room { self.now.room < 1000 }
+        requires some { 0 < self.now.room }
+        requires side { cursor.old.note ≡ false }
+        requires invariants { invariants.depth ≤ self.now.room }
+        ensures reads { Reads (measured statement_view) (views.for_behind_word self.now.room (measured (map clause_view) invariants) (lexeme first.entry) (seen cursor.old)) result (seen cursor.new) }
+        ensures kept { IsKept cursor.old cursor.new }
+        ensures bounded { IfOk result (λ f. f.depth ≤ self.now.room + 1) }
+    {
+        let head = self.for_head(cursor)?;
+        self.for_turned(cursor, invariants, first, head)
+    }
+
     /// A `for`, behind its invariants.
-    #[tactic(auto, unfolding(crate::specs::StatementReading::for_))]
+    #[tactic(auto, using(crate::proofs::StatementRules::for_rule))]
     fn for_loop(
         &self,
         cursor: &mut Cursor<'_>,
@@ -180,11 +200,52 @@ impl<S: Fn(Global, &mut Cursor<'_>, usize, Slot) -> Result<Measured<Stmt>, Parse
         ensures bounded { IfOk result (λ f. f.depth ≤ self.now.room + 1) }
     {
         let first = take_word(cursor, b"for")?;
-        let head = self.for_head(cursor)?;
-        self.for_turned(cursor, invariants, first, head)
+        self.for_behind_word(cursor, invariants, first)
+    }
+
+    /// A loop, behind its invariants, which begins with this mark.
+    fn loop_by(
+        &self,
+        cursor: &mut Cursor<'_>,
+        invariants: Measured<List<ClauseTree>>,
+        mark: StatementMark,
+    ) -> Result<Measured<Stmt>, ParseError>
+        requires nests { NestsStatement self.now.room (S.pre self.now.statement) (S.post self.now.statement) }
+        requires room { self.now.room < 1000 }
+        requires some { 0 < self.now.room }
+        requires side { cursor.old.note ≡ false }
+        requires invariants { invariants.depth ≤ self.now.room }
+        ensures reads { Reads (measured statement_view) (over spec.loop_by self.now.room (measured (map clause_view) invariants) mark (seen cursor.old)) result (seen cursor.new) }
+        ensures kept { IsKept cursor.old cursor.new }
+        ensures bounded { IfOk result (λ f. f.depth ≤ self.now.room + 1) }
+    {
+        match mark {
+            StatementMark::While => self.while_loop(cursor, invariants),
+            StatementMark::For => self.for_loop(cursor, invariants),
+            _ => Err(cursor.refuse()),
+        }
+    }
+
+    fn loop_behind(
+        &self,
+        cursor: &mut Cursor<'_>,
+        invariants: Measured<List<ClauseTree>>,
+    ) -> Result<Measured<Stmt>, ParseError>
+        requires nests { NestsStatement self.now.room (S.pre self.now.statement) (S.post self.now.statement) }
+        requires room { self.now.room < 1000 }
+        requires some { 0 < self.now.room }
+        requires side { cursor.old.note ≡ false }
+        requires invariants { invariants.depth ≤ self.now.room }
+        ensures reads { Reads (measured statement_view) (views.loop_behind self.now.room (measured (map clause_view) invariants) (seen cursor.old)) result (seen cursor.new) }
+        ensures kept { IsKept cursor.old cursor.new }
+        ensures bounded { IfOk result (λ f. f.depth ≤ self.now.room + 1) }
+    {
+        let mark = peek_statement(cursor);
+        self.loop_by(cursor, invariants, mark)
     }
 
     /// A loop.
+    #[tactic(auto, using(crate::proofs::StatementRules::loop_rule))]
     pub fn loop_statement(&self, cursor: &mut Cursor<'_>) -> Result<Measured<Stmt>, ParseError>
         requires nests { NestsStatement self.now.room (S.pre self.now.statement) (S.post self.now.statement) }
         requires room { self.now.room < 1000 }
@@ -195,10 +256,6 @@ impl<S: Fn(Global, &mut Cursor<'_>, usize, Slot) -> Result<Measured<Stmt>, Parse
         ensures bounded { IfOk result (λ f. f.depth ≤ self.now.room + 1) }
     {
         let invariants = self.parts().invariants(cursor)?;
-        match peek_statement(cursor) {
-            StatementMark::While => self.while_loop(cursor, invariants),
-            StatementMark::For => self.for_loop(cursor, invariants),
-            _ => Err(cursor.refuse()),
-        }
+        self.loop_behind(cursor, invariants)
     }
 }

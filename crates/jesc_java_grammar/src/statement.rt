@@ -92,7 +92,7 @@ impl<S: Fn(Global, &mut Cursor<'_>, usize, Slot) -> Result<Measured<Stmt>, Parse
 
 /// The fault where no statement has room.
 #[tactic(auto, unfolding(crate::specs::StatementReading::statement, crate::specs::StatementReading::no_room))]
-fn no_room(cursor: &Cursor<'_>, slot: Slot) -> ParseError
+pub fn no_room(cursor: &Cursor<'_>, slot: Slot) -> ParseError
     requires side { cursor.now.note ≡ false }
     ensures { Reads (measured statement_view) (statement_within 0 slot (seen cursor.now)) (Err result) (seen cursor.now) }
 {
