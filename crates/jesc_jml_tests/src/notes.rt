@@ -258,7 +258,14 @@ fn expect_token(
 }
 
 /// Asserts that the end of the text is refused.
-fn expect_end(rt: &impl Abort, alloc: Global, rule: Rule, side: Side, kind: &str, before: &str) {
+fn expect_end(
+    rt: &impl Abort,
+    alloc: Global,
+    rule: Rule,
+    side: Side,
+    kind: &str,
+    before: &'static str,
+) {
     let mut source = Text::new(alloc);
     put_all(&mut source, &[side.open, before, side.close]);
     let at = source.as_slice().len();
