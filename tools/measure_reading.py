@@ -10,7 +10,6 @@ byte of source. javac's parser (`com.sun.source`, as `javac -proc:none` has it) 
 the least of forty parses of the same text.
 """
 import os
-import resource
 import subprocess
 import sys
 import tempfile
@@ -69,16 +68,16 @@ def source(size):
 
 
 def run(program, name):
-    """The least time of five runs, and the greatest peak of memory in bytes."""
-    best, peak = None, 0
+    """The least time of five runs, and the peak of memory in bytes."""
+    best = None
     for _ in range(5):
         begin = time.perf_counter()
-        child = subprocess.Popen([program, "--esc", name], stdout=subprocess.DEVNULL, stderr=subprocess.DEVNULL)
-        _, _, usage = os.wait4(child.pid, 0)
+        subprocess.run([program, "--esc", name], stdout=subprocess.DEVNULL, stderr=subprocess.DEVNULL)
         taken = time.perf_counter() - begin
         best = taken if best is None else min(best, taken)
-        peak = max(peak, usage.ru_maxrss * 1024)
-    return best, peak
+    # (a process that Python starts itself would count Python's own memory)
+    told = subprocess.run(["/usr/bin/time", "-f", "%M", program, "--esc", name], stdout=subprocess.DEVNULL, stderr=subprocess.PIPE, text=True)
+    return best, int(told.stderr.split()[-1]) * 1024
 
 
 def main():
