@@ -203,38 +203,9 @@ fn put_field(into: &mut Text, ty: &TypeTree, valued: bool, groups: usize) {
     put_counted(into, b"in", groups);
 }
 
-fn put_member(into: &mut Text, member: &MemberTree) {
-    match &member.node {
-        MemberNode::Empty => put_token(into, b"empty"),
-        MemberNode::Field {
-            modifiers,
-            ty,
-            name: _,
-            equals: _,
-            value,
-            groups,
-        } => {
-            put_counted(into, b"field", modifiers.as_slice().len());
-            put_field(into, ty, value.is_some(), groups.as_slice().len());
-        }
-        MemberNode::SpecField {
-            modifiers,
-            ty,
-            name: _,
-            equals: _,
-            value,
-            groups,
-        } => {
-            put_counted(into, b"specfield", modifiers.as_slice().len());
-            put_field(into, ty, value.is_some(), groups.as_slice().len());
-        }
-        MemberNode::Invariant { modifiers, e: _ } => {
-            put_counted(into, b"invariant", modifiers.as_slice().len());
-        }
-        MemberNode::Represents { name, .. } => {
-            put_token(into, b"represents");
-            put_token(into, name.text.as_slice());
-        }
+/// A method or a constructor.
+fn put_callable(into: &mut Text, node: &MemberNode) {
+    match node {
         MemberNode::Method {
             spec,
             modifiers,
@@ -265,6 +236,41 @@ fn put_member(into: &mut Text, member: &MemberTree) {
             put_counted(into, b"throws", throws.as_slice().len());
             put_body(into, body);
         }
+        _ => {}
+    }
+}
+
+fn put_member(into: &mut Text, member: &MemberTree) {
+    match &member.node {
+        MemberNode::Empty => put_token(into, b"empty"),
+        MemberNode::Field {
+            modifiers,
+            ty,
+            value,
+            groups,
+            ..
+        } => {
+            put_counted(into, b"field", modifiers.as_slice().len());
+            put_field(into, ty, value.is_some(), groups.as_slice().len());
+        }
+        MemberNode::SpecField {
+            modifiers,
+            ty,
+            value,
+            groups,
+            ..
+        } => {
+            put_counted(into, b"specfield", modifiers.as_slice().len());
+            put_field(into, ty, value.is_some(), groups.as_slice().len());
+        }
+        MemberNode::Invariant { modifiers, e: _ } => {
+            put_counted(into, b"invariant", modifiers.as_slice().len());
+        }
+        MemberNode::Represents { name, .. } => {
+            put_token(into, b"represents");
+            put_token(into, name.text.as_slice());
+        }
+        node => put_callable(into, node),
     }
 }
 
