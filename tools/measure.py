@@ -27,61 +27,53 @@ def method(number):
     )
 
 
-def source(size):
-    """A class of whole methods of at most this many bytes, and their number."""
-    text = ["class Made {\n"]
-    length = len(text[0]) + 2
-    number = 0
-    while True:
-        more = method(number)
-        if length + len(more) > size:
-            break
-        text.append(more)
-        length += len(more)
+def source(size, head="class Made {\n"):
+    """A class of whole methods behind this head, of at most this many bytes, and their number."""
+    text, length, number = [head], len(head) + 2, 0
+    while length + len(method(number)) <= size:
+        text.append(method(number))
+        length += len(text[-1])
         number += 1
-    text.append("}\n")
-    return "".join(text), number
+    return "".join([*text, "}\n"]), number
 
 
-def run(program, folder, name):
-    best, peak = None, 0
-    for _ in range(5):
-        begin = time.perf_counter()
-        child = subprocess.Popen([program, "--esc", name], cwd=folder, stdout=subprocess.PIPE, stderr=subprocess.PIPE)
-        out, err = child.communicate()
-        taken = time.perf_counter() - begin
-        best = taken if best is None else min(best, taken)
-    usage = subprocess.run(
-        ["/usr/bin/env", "python3", "-c",
-         "import resource,subprocess,sys\n"
-         "subprocess.run(sys.argv[1:],stdout=subprocess.DEVNULL,stderr=subprocess.DEVNULL)\n"
-         "print(resource.getrusage(resource.RUSAGE_CHILDREN).ru_maxrss)", program, "--esc", name],
-        cwd=folder, capture_output=True, text=True)
-    return best, int(usage.stdout) / 1024, child.returncode, out.decode().splitlines()[-1:] or err.decode().splitlines()
+def timed(words):
+    begin = time.perf_counter()
+    done = subprocess.run(words, capture_output=True)
+    return time.perf_counter() - begin, done
+
+
+def run(program, name):
+    """The least time of five runs, the peak of memory in bytes, the status, and the last line of what was written."""
+    runs = [timed([program, "--esc", name]) for _ in range(5)]
+    done = runs[0][1]
+    # (a process that Python starts itself would count Python's own memory)
+    told = subprocess.run(["/usr/bin/time", "-f", "%M", program, "--esc", name], stdout=subprocess.DEVNULL, stderr=subprocess.PIPE, text=True)
+    last = (done.stdout or done.stderr).decode().splitlines()[-1:]
+    return min(taken for taken, _ in runs), int(told.stderr.split()[-1]) * 1024, done.returncode, last
+
+
+def program_of(words):
+    """The program that the words name, else the one of this checkout."""
+    here = os.path.dirname(os.path.abspath(__file__))
+    return os.path.abspath(words[1] if len(words) > 1 else os.path.join(here, "../crates/jesc/out/jesc"))
 
 
 def main():
-    here = os.path.dirname(os.path.abspath(__file__))
-    program = os.path.abspath(sys.argv[1] if len(sys.argv) > 1 else os.path.join(here, "../crates/jesc/out/jesc"))
+    program = program_of(sys.argv)
     with tempfile.TemporaryDirectory() as folder:
+        os.chdir(folder)
         for part in (8, 4, 2, 1):
             text, count = source(LIMIT // part)
-            name = f"Made{part}.java"
-            with open(os.path.join(folder, name), "w") as file:
+            with open("Made.java", "w") as file:
                 file.write(text)
-            taken, peak, status, last = run(program, folder, name)
-            print(f"1/{part}: {len(text)} bytes, {count} methods: {taken:.4f} s, {peak:.1f} MB, status {status}, {last}")
-        with open(os.path.join(folder, "E.java"), "w") as file:
+            taken, peak, status, last = run(program, "Made.java")
+            print(f"1/{part}: {len(text)} bytes, {count} methods: {taken:.4f} s, {peak / 1e6:.1f} MB, status {status}, {last}")
+        with open("E.java", "w") as file:
             file.write("class E { }\n")
-        taken, peak, status, last = run(program, folder, "E.java")
-        trivial = min(timed_true() for _ in range(5))
-        print(f"empty class: {taken * 1000:.2f} ms, {peak:.1f} MB; /bin/true: {trivial * 1000:.2f} ms; ratio {taken / trivial:.2f}")
-
-
-def timed_true():
-    begin = time.perf_counter()
-    subprocess.run(["/bin/true"])
-    return time.perf_counter() - begin
+        taken, peak, status, last = run(program, "E.java")
+        trivial = min(timed(["/bin/true"])[0] for _ in range(5))
+        print(f"empty class: {taken * 1000:.2f} ms, {peak / 1e6:.1f} MB; /bin/true: {trivial * 1000:.2f} ms; ratio {taken / trivial:.2f}")
 
 
 if __name__ == "__main__":

@@ -13,9 +13,10 @@ import os
 import subprocess
 import sys
 import tempfile
-import time
 
-LIMIT = 1_048_576
+from measure import LIMIT, program_of, run, source
+
+HEAD = "interface None { }\nclass Made {\n"
 
 HARNESS = """
 import com.sun.source.util.JavacTask;
@@ -44,56 +45,19 @@ class Parse {
 """
 
 
-def method(number):
-    return (
-        "  //@ requires x < 1000;\n"
-        "  //@ ensures \\result > x;\n"
-        f"  static int m{number}(int x) {{\n"
-        f"    int y = x + {number % 1000 + 1};\n"
-        "    //@ assert y > x;\n"
-        "    return y;\n"
-        "  }\n"
-    )
-
-
-def source(size):
-    """An interface and a class of whole methods, of at most this many bytes."""
-    head = "interface None { }\nclass Made {\n"
-    parts, length, number = [head], len(head) + 2, 0
-    while length + len(method(number)) <= size:
-        parts.append(method(number))
-        length += len(parts[-1])
-        number += 1
-    return "".join([*parts, "}\n"])
-
-
-def run(program, name):
-    """The least time of five runs, and the peak of memory in bytes."""
-    best = None
-    for _ in range(5):
-        begin = time.perf_counter()
-        subprocess.run([program, "--esc", name], stdout=subprocess.DEVNULL, stderr=subprocess.DEVNULL)
-        taken = time.perf_counter() - begin
-        best = taken if best is None else min(best, taken)
-    # (a process that Python starts itself would count Python's own memory)
-    told = subprocess.run(["/usr/bin/time", "-f", "%M", program, "--esc", name], stdout=subprocess.DEVNULL, stderr=subprocess.PIPE, text=True)
-    return best, int(told.stderr.split()[-1]) * 1024
-
-
 def main():
-    here = os.path.dirname(os.path.dirname(os.path.abspath(__file__)))
-    program = os.path.abspath(sys.argv[1]) if len(sys.argv) > 1 else f"{here}/crates/jesc/out/jesc"
+    program = program_of(sys.argv)
     with tempfile.TemporaryDirectory() as folder:
         os.chdir(folder)
         with open("Empty.java", "w") as file:
             file.write("interface None { }\n")
-        start, base = run(program, "Empty.java")
+        start, base, _, _ = run(program, "Empty.java")
         print(f"an empty interface: {start:.4f} s, {base / 1e6:.1f} MB")
         for part in (8, 4, 2, 1):
-            text = source(LIMIT // part)
+            text, _ = source(LIMIT // part, HEAD)
             with open("Made.java", "w") as file:
                 file.write(text)
-            taken, peak = run(program, "Made.java")
+            taken, peak, _, _ = run(program, "Made.java")
             print(f"{len(text)} bytes: {taken - start:.4f} s, {len(text) / (taken - start) / 1e6:.1f} MB/s, {(peak - base) / len(text):.1f} bytes of memory a byte")
         with open("Parse.java", "w") as file:
             file.write(HARNESS)
@@ -102,4 +66,5 @@ def main():
         print(f"javac's parser, warm: {javac:.4f} s, {len(text) / javac / 1e6:.1f} MB/s; jesc takes {(taken - start) / javac:.2f} of its time")
 
 
-main()
+if __name__ == "__main__":
+    main()
