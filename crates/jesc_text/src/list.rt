@@ -53,11 +53,28 @@ impl<T> List<T> {
 }
 
 impl<T: Drop> List<T> {
+    /// Makes room for one more item: for one at first, and from then on for as many again.
+    ///
+    /// Most lists of a tree hold one item or two, and `Vec` would begin with room for four.
+    fn make_room(&mut self) -> Result<(), OutOfMemory>
+        ensures { self.new ≡ self.old }
+    {
+        let len = self.items.len();
+        if len < self.items.capacity() {
+            return Ok(());
+        }
+        match self.items.reserve_exact(len.max(1)) {
+            Ok(_) => Ok(()),
+            Err(_) => Err(OutOfMemory),
+        }
+    }
+
     /// Appends an item. Answers `OutOfMemory`, and leaves the list as it was, where there is no room for it.
     pub fn push(&mut self, item: T) -> Result<(), OutOfMemory>
         ensures ok { OnOk result (self.new ≡ self.old ++ item ∷ []) }
         ensures err { OnErr result (self.new ≡ self.old) }
     {
+        self.make_room()?;
         match self.items.push(item) {
             Ok(_) => Ok(()),
             Err(_) => Err(OutOfMemory),
