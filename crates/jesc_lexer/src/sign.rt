@@ -2,30 +2,52 @@
 ghost use Rattle.std.specs.Prelude.{◌≡◌, ◌++◌, [], ◌∷◌, codes, if◌then◌else◌};
 ghost use Rattle.jesc_lexer.specs.Lexemes.{sign_len, any_fit, first_fit, note_signs, double_signs, single_signs};
 
-/// The signs of two bytes.
-const DOUBLES: [[u8; 2]; 13] = [
-    *b"==", *b"!=", *b"<=", *b">=", *b"&&", *b"||", *b"++", *b"--", *b"+=", *b"-=", *b"*=", *b"/=",
-    *b"%=",
-];
+/// Whether these two bytes are a sign of code and annotations.
+fn is_double(one: u8, two: u8) -> bool
+    ensures { result ≡ any_fit double_signs (one ∷ two ∷ []) }
+{
+    match two {
+        b'=' => matches!(
+            one,
+            b'=' | b'!' | b'<' | b'>' | b'+' | b'-' | b'*' | b'/' | b'%'
+        ),
+        b'&' => one == b'&',
+        b'|' => one == b'|',
+        b'+' => one == b'+',
+        b'-' => one == b'-',
+        _ => false,
+    }
+}
 
-/// The signs of one byte.
-const SINGLES: [[u8; 1]; 21] = [
-    *b"+", *b"-", *b"*", *b"/", *b"%", *b"<", *b">", *b"!", *b"=", *b"?", *b":", *b"(", *b")",
-    *b"{", *b"}", *b"[", *b"]", *b";", *b",", *b".", *b"@",
-];
+/// Whether this byte is a sign of code and annotations.
+fn is_single(byte: u8) -> bool
+    ensures { result ≡ any_fit single_signs (byte ∷ []) }
+{
+    match byte {
+        b'+' | b'-' | b'*' | b'/' | b'%' | b'<' | b'>' | b'!' | b'=' | b'?' | b':' => true,
+        b'(' | b')' | b'{' | b'}' | b'[' | b']' | b';' | b',' | b'.' | b'@' => true,
+        _ => false,
+    }
+}
 
 /// Whether a sign of two bytes, of code and annotations, begins the bytes.
 fn begins_double(bytes: &[u8]) -> bool
     ensures { result ≡ any_fit double_signs bytes.now }
 {
-    DOUBLES.iter().any(|sign| bytes.starts_with(sign))
+    match bytes {
+        [one, two, ..] => is_double(*one, *two),
+        _ => false,
+    }
 }
 
 /// Whether a sign of one byte begins the bytes.
 fn begins_single(bytes: &[u8]) -> bool
     ensures { result ≡ any_fit single_signs bytes.now }
 {
-    SINGLES.iter().any(|sign| bytes.starts_with(sign))
+    match bytes {
+        [byte, ..] => is_single(*byte),
+        [] => false,
+    }
 }
 
 /// The length of the sign that begins the bytes and is one in annotations alone, 0 where none does.
