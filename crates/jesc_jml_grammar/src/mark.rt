@@ -1,7 +1,7 @@
 //! What a token is to the grammar, told by its kind and its text.
 
-ghost use Rattle.std.specs.Prelude.{◌≡◌, ◌∷◌, [], bytes_eq, codes};
-ghost use Rattle.jesc_ast.specs.Words.{is_name as is_name_text, is_one_of};
+ghost use Rattle.std.specs.Prelude.{◌≡◌, Bool, ◌∷◌, [], bytes_eq, codes};
+ghost use Rattle.jesc_ast.specs.Words.{is_name as is_name_text, is_one_of, reserved};
 ghost use Rattle.jesc_jml_grammar.specs.Marks as spec;
 
 use jesc_lexer::TokenKind;
@@ -71,231 +71,167 @@ pub fn same(a: &[u8], b: &[u8]) -> bool
     a == b
 }
 
-// The words that are no names, in the order of the alphabet, a few at a time.
+// The words that are no names, by their first byte.
 
-fn is_first_group(text: &[u8]) -> bool
-    ensures { result ≡ is_one_of (codes "abstract" ∷ codes "assert" ∷ codes "boolean" ∷ codes "break" ∷ codes "byte" ∷ codes "case" ∷ codes "catch" ∷ codes "char" ∷ codes "class" ∷ []) text.now }
+fn is_a_word(text: &[u8]) -> bool
+    ensures { result ≡ is_one_of (codes "abstract" ∷ codes "assert" ∷ []) text.now }
 {
-    if same(text, b"abstract") {
-        return true;
-    }
-    if same(text, b"assert") {
-        return true;
-    }
-    if same(text, b"boolean") {
-        return true;
-    }
-    if same(text, b"break") {
-        return true;
-    }
-    if same(text, b"byte") {
-        return true;
-    }
-    if same(text, b"case") {
-        return true;
-    }
-    if same(text, b"catch") {
-        return true;
-    }
-    if same(text, b"char") {
-        return true;
-    }
-    same(text, b"class")
+    same(text, b"abstract") || same(text, b"assert")
 }
 
-fn is_second_group(text: &[u8]) -> bool
-    ensures { result ≡ is_one_of (codes "const" ∷ codes "continue" ∷ codes "default" ∷ codes "do" ∷ codes "double" ∷ codes "else" ∷ codes "enum" ∷ codes "extends" ∷ codes "final" ∷ []) text.now }
+fn is_b_word(text: &[u8]) -> bool
+    ensures { result ≡ is_one_of (codes "boolean" ∷ codes "break" ∷ codes "byte" ∷ []) text.now }
 {
-    if same(text, b"const") {
-        return true;
-    }
-    if same(text, b"continue") {
-        return true;
-    }
-    if same(text, b"default") {
-        return true;
-    }
-    if same(text, b"do") {
-        return true;
-    }
-    if same(text, b"double") {
-        return true;
-    }
-    if same(text, b"else") {
-        return true;
-    }
-    if same(text, b"enum") {
-        return true;
-    }
-    if same(text, b"extends") {
-        return true;
-    }
-    same(text, b"final")
+    same(text, b"boolean") || same(text, b"break") || same(text, b"byte")
 }
 
-fn is_third_group(text: &[u8]) -> bool
-    ensures { result ≡ is_one_of (codes "finally" ∷ codes "float" ∷ codes "for" ∷ codes "goto" ∷ codes "if" ∷ codes "implements" ∷ codes "import" ∷ codes "instanceof" ∷ codes "int" ∷ []) text.now }
+fn is_c_word(text: &[u8]) -> bool
+    ensures { result ≡ is_one_of (codes "case" ∷ codes "catch" ∷ codes "char" ∷ codes "class" ∷ codes "const" ∷ codes "continue" ∷ []) text.now }
 {
-    if same(text, b"finally") {
+    if same(text, b"case") || same(text, b"catch") || same(text, b"char") {
         return true;
     }
-    if same(text, b"float") {
-        return true;
-    }
-    if same(text, b"for") {
-        return true;
-    }
-    if same(text, b"goto") {
-        return true;
-    }
-    if same(text, b"if") {
-        return true;
-    }
-    if same(text, b"implements") {
-        return true;
-    }
-    if same(text, b"import") {
-        return true;
-    }
-    if same(text, b"instanceof") {
-        return true;
-    }
-    same(text, b"int")
+    same(text, b"class") || same(text, b"const") || same(text, b"continue")
 }
 
-fn is_fourth_group(text: &[u8]) -> bool
-    ensures { result ≡ is_one_of (codes "interface" ∷ codes "long" ∷ codes "native" ∷ codes "new" ∷ codes "package" ∷ codes "private" ∷ codes "protected" ∷ codes "public" ∷ codes "return" ∷ []) text.now }
+fn is_d_word(text: &[u8]) -> bool
+    ensures { result ≡ is_one_of (codes "default" ∷ codes "do" ∷ codes "double" ∷ []) text.now }
 {
-    if same(text, b"interface") {
-        return true;
-    }
-    if same(text, b"long") {
-        return true;
-    }
-    if same(text, b"native") {
-        return true;
-    }
-    if same(text, b"new") {
-        return true;
-    }
-    if same(text, b"package") {
-        return true;
-    }
-    if same(text, b"private") {
-        return true;
-    }
-    if same(text, b"protected") {
-        return true;
-    }
-    if same(text, b"public") {
-        return true;
-    }
-    same(text, b"return")
+    same(text, b"default") || same(text, b"do") || same(text, b"double")
 }
 
-fn is_fifth_group(text: &[u8]) -> bool
-    ensures { result ≡ is_one_of (codes "short" ∷ codes "static" ∷ codes "strictfp" ∷ codes "super" ∷ codes "switch" ∷ codes "synchronized" ∷ codes "this" ∷ codes "throw" ∷ codes "throws" ∷ []) text.now }
+fn is_e_word(text: &[u8]) -> bool
+    ensures { result ≡ is_one_of (codes "else" ∷ codes "enum" ∷ codes "extends" ∷ []) text.now }
 {
-    if same(text, b"short") {
-        return true;
-    }
-    if same(text, b"static") {
-        return true;
-    }
-    if same(text, b"strictfp") {
-        return true;
-    }
-    if same(text, b"super") {
-        return true;
-    }
-    if same(text, b"switch") {
-        return true;
-    }
-    if same(text, b"synchronized") {
-        return true;
-    }
-    if same(text, b"this") {
-        return true;
-    }
-    if same(text, b"throw") {
-        return true;
-    }
-    same(text, b"throws")
+    same(text, b"else") || same(text, b"enum") || same(text, b"extends")
 }
 
-fn is_sixth_group(text: &[u8]) -> bool
-    ensures { result ≡ is_one_of (codes "transient" ∷ codes "try" ∷ codes "void" ∷ codes "volatile" ∷ codes "while" ∷ codes "_" ∷ codes "true" ∷ codes "false" ∷ codes "null" ∷ []) text.now }
+fn is_f_word(text: &[u8]) -> bool
+    ensures { result ≡ is_one_of (codes "final" ∷ codes "finally" ∷ codes "float" ∷ codes "for" ∷ codes "false" ∷ []) text.now }
 {
-    if same(text, b"transient") {
+    if same(text, b"final") || same(text, b"finally") || same(text, b"float") {
         return true;
     }
-    if same(text, b"try") {
+    same(text, b"for") || same(text, b"false")
+}
+
+fn is_i_word(text: &[u8]) -> bool
+    ensures { result ≡ is_one_of (codes "if" ∷ codes "implements" ∷ codes "import" ∷ codes "instanceof" ∷ codes "int" ∷ codes "interface" ∷ []) text.now }
+{
+    if same(text, b"if") || same(text, b"implements") || same(text, b"import") {
         return true;
     }
-    if same(text, b"void") {
+    same(text, b"instanceof") || same(text, b"int") || same(text, b"interface")
+}
+
+fn is_n_word(text: &[u8]) -> bool
+    ensures { result ≡ is_one_of (codes "native" ∷ codes "new" ∷ codes "null" ∷ []) text.now }
+{
+    same(text, b"native") || same(text, b"new") || same(text, b"null")
+}
+
+fn is_p_word(text: &[u8]) -> bool
+    ensures { result ≡ is_one_of (codes "package" ∷ codes "private" ∷ codes "protected" ∷ codes "public" ∷ []) text.now }
+{
+    if same(text, b"package") || same(text, b"private") || same(text, b"protected") {
         return true;
     }
-    if same(text, b"volatile") {
+    same(text, b"public")
+}
+
+fn is_s_word(text: &[u8]) -> bool
+    ensures { result ≡ is_one_of (codes "short" ∷ codes "static" ∷ codes "strictfp" ∷ codes "super" ∷ codes "switch" ∷ codes "synchronized" ∷ []) text.now }
+{
+    if same(text, b"short") || same(text, b"static") || same(text, b"strictfp") {
         return true;
     }
-    if same(text, b"while") {
+    same(text, b"super") || same(text, b"switch") || same(text, b"synchronized")
+}
+
+fn is_t_word(text: &[u8]) -> bool
+    ensures { result ≡ is_one_of (codes "this" ∷ codes "throw" ∷ codes "throws" ∷ codes "transient" ∷ codes "try" ∷ codes "true" ∷ []) text.now }
+{
+    if same(text, b"this") || same(text, b"throw") || same(text, b"throws") {
         return true;
     }
-    if same(text, b"_") {
-        return true;
+    same(text, b"transient") || same(text, b"try") || same(text, b"true")
+}
+
+fn is_v_word(text: &[u8]) -> bool
+    ensures { result ≡ is_one_of (codes "void" ∷ codes "volatile" ∷ []) text.now }
+{
+    same(text, b"void") || same(text, b"volatile")
+}
+
+/// Whether the text is a word that is no name.
+fn is_reserved(text: &[u8]) -> bool
+    ensures { result ≡ is_one_of reserved text.now }
+{
+    match text {
+        [b'a', ..] => is_a_word(text),
+        [b'b', ..] => is_b_word(text),
+        [b'c', ..] => is_c_word(text),
+        [b'd', ..] => is_d_word(text),
+        [b'e', ..] => is_e_word(text),
+        [b'f', ..] => is_f_word(text),
+        [b'g', ..] => same(text, b"goto"),
+        [b'i', ..] => is_i_word(text),
+        [b'l', ..] => same(text, b"long"),
+        [b'n', ..] => is_n_word(text),
+        [b'p', ..] => is_p_word(text),
+        [b'r', ..] => same(text, b"return"),
+        [b's', ..] => is_s_word(text),
+        [b't', ..] => is_t_word(text),
+        [b'v', ..] => is_v_word(text),
+        [b'w', ..] => same(text, b"while"),
+        [b'_', ..] => same(text, b"_"),
+        _ => false,
     }
-    if same(text, b"true") {
-        return true;
-    }
-    if same(text, b"false") {
-        return true;
-    }
-    same(text, b"null")
 }
 
 fn is_name(text: &[u8]) -> bool
     ensures { result ≡ is_name_text text.now }
 {
-    if is_first_group(text) || is_second_group(text) || is_third_group(text) {
-        return false;
-    }
-    !(is_fourth_group(text) || is_fifth_group(text) || is_sixth_group(text))
+    !is_reserved(text)
 }
 
 fn keyword_mark(text: &[u8]) -> Mark
     ensures { result ≡ spec.keyword_mark text.now }
 {
-    if same(text, b"true") {
-        return Mark::True;
+    match text {
+        [b't', ..] => {
+            if same(text, b"this") {
+                Mark::This
+            } else if same(text, b"true") {
+                Mark::True
+            } else {
+                Mark::Keyword
+            }
+        }
+        [b'n', ..] => {
+            if same(text, b"new") {
+                Mark::New
+            } else if same(text, b"null") {
+                Mark::Null
+            } else {
+                Mark::Keyword
+            }
+        }
+        [b'i', ..] => {
+            if same(text, b"int") {
+                Mark::Int
+            } else if same(text, b"instanceof") {
+                Mark::InstanceOf
+            } else {
+                Mark::Keyword
+            }
+        }
+        [b'f', ..] if same(text, b"false") => Mark::False,
+        [b's', ..] if same(text, b"super") => Mark::Super,
+        [b'l', ..] if same(text, b"long") => Mark::Long,
+        [b'b', ..] if same(text, b"boolean") => Mark::Boolean,
+        _ => Mark::Keyword,
     }
-    if same(text, b"false") {
-        return Mark::False;
-    }
-    if same(text, b"null") {
-        return Mark::Null;
-    }
-    if same(text, b"this") {
-        return Mark::This;
-    }
-    if same(text, b"new") {
-        return Mark::New;
-    }
-    if same(text, b"super") {
-        return Mark::Super;
-    }
-    if same(text, b"instanceof") {
-        return Mark::InstanceOf;
-    }
-    if same(text, b"int") {
-        return Mark::Int;
-    }
-    if same(text, b"long") {
-        return Mark::Long;
-    }
-    if same(text, b"boolean") {
-        return Mark::Boolean;
-    }
-    Mark::Keyword
 }
 
 fn backslash_mark(text: &[u8]) -> Mark
@@ -334,89 +270,61 @@ fn note_sign_mark(text: &[u8]) -> Mark
     Mark::Sign
 }
 
-fn other_sign_mark(note: bool, text: &[u8]) -> Mark
-    ensures { result ≡ spec.other_sign_mark note text.now }
+/// What a sign of one byte is.
+fn single_mark(byte: u8) -> Mark
+    ensures { (note : Bool) → result ≡ spec.sign_mark note (byte ∷ []) }
 {
-    if same(text, b"<") {
-        return Mark::Less;
+    match byte {
+        b'(' => Mark::LeftParen,
+        b')' => Mark::RightParen,
+        b'.' => Mark::Dot,
+        b',' => Mark::Comma,
+        b';' => Mark::Semicolon,
+        b'[' => Mark::LeftBracket,
+        b']' => Mark::RightBracket,
+        b'+' => Mark::Plus,
+        b'-' => Mark::Minus,
+        b'*' => Mark::Times,
+        b'/' => Mark::Quotient,
+        b'%' => Mark::Remainder,
+        b'<' => Mark::Less,
+        b'>' => Mark::Greater,
+        b'!' => Mark::Not,
+        b'?' => Mark::Question,
+        b':' => Mark::Colon,
+        _ => Mark::Sign,
     }
-    if same(text, b"<=") {
-        return Mark::LessEqual;
-    }
-    if same(text, b">") {
-        return Mark::Greater;
-    }
-    if same(text, b">=") {
-        return Mark::GreaterEqual;
-    }
-    if same(text, b"==") {
-        return Mark::Equal;
-    }
-    if same(text, b"!=") {
-        return Mark::Unequal;
-    }
-    if same(text, b"&&") {
-        return Mark::And;
-    }
-    if same(text, b"||") {
-        return Mark::Or;
-    }
-    if same(text, b"!") {
-        return Mark::Not;
-    }
-    if same(text, b"?") {
-        return Mark::Question;
-    }
-    if same(text, b":") {
-        return Mark::Colon;
-    }
-    if note {
-        note_sign_mark(text)
-    } else {
-        Mark::Sign
+}
+
+/// What a sign of two bytes is.
+fn double_mark(one: u8, two: u8) -> Mark
+    ensures { (note : Bool) → result ≡ spec.sign_mark note (one ∷ two ∷ []) }
+{
+    match (one, two) {
+        (b'<', b'=') => Mark::LessEqual,
+        (b'>', b'=') => Mark::GreaterEqual,
+        (b'=', b'=') => Mark::Equal,
+        (b'!', b'=') => Mark::Unequal,
+        (b'&', b'&') => Mark::And,
+        (b'|', b'|') => Mark::Or,
+        _ => Mark::Sign,
     }
 }
 
 fn sign_mark(note: bool, text: &[u8]) -> Mark
     ensures { result ≡ spec.sign_mark note text.now }
 {
-    if same(text, b"(") {
-        return Mark::LeftParen;
+    match text {
+        [byte] => single_mark(*byte),
+        [one, two] => double_mark(*one, *two),
+        _ => {
+            if note {
+                note_sign_mark(text)
+            } else {
+                Mark::Sign
+            }
+        }
     }
-    if same(text, b")") {
-        return Mark::RightParen;
-    }
-    if same(text, b".") {
-        return Mark::Dot;
-    }
-    if same(text, b",") {
-        return Mark::Comma;
-    }
-    if same(text, b";") {
-        return Mark::Semicolon;
-    }
-    if same(text, b"[") {
-        return Mark::LeftBracket;
-    }
-    if same(text, b"]") {
-        return Mark::RightBracket;
-    }
-    if same(text, b"+") {
-        return Mark::Plus;
-    }
-    if same(text, b"-") {
-        return Mark::Minus;
-    }
-    if same(text, b"*") {
-        return Mark::Times;
-    }
-    if same(text, b"/") {
-        return Mark::Quotient;
-    }
-    if same(text, b"%") {
-        return Mark::Remainder;
-    }
-    other_sign_mark(note, text)
 }
 
 /// What a token of this side, kind and text is to the grammar.
