@@ -1,5 +1,5 @@
 -- What is known of the parsers of specifications and of members in annotations.
-use Rattle.std.proofs.Common.{◌≡◌, ◌+◌, ◌-◌, ◌≤◌, ◌<◌, true, refl, arith}
+use Rattle.std.proofs.Common.{true, refl, arith}
 use Rattle.jesc_ast.specs.Specifications.{SpellsSpec}
 use Rattle.jesc_ast.specs.Depth.{depth, of_cases, of_member, IsSpecWithinLimits}
 use Rattle.jesc_jml_grammar.specs.Reading.{turns}

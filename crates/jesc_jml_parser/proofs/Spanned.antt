@@ -1,5 +1,5 @@
 -- Tokens that stand one after another in a text.
-use Rattle.std.proofs.Common.{◌≡◌, ℕ, zero, suc, ◌+◌, ◌-◌, ◌≤◌, ◌<◌, Bool, true, false, ◌&&◌, nat_le, IsTrue, List, [], ◌∷◌, length, drop, refl, arith}
+use Rattle.std.proofs.Common.{◌≡◌, ℕ, zero, suc, ◌+◌, ◌≤◌, Bool, true, false, ◌&&◌, nat_le, IsTrue, List, [], ◌∷◌, length, drop, refl, arith}
 use Rattle.std.specs.List.{list_all}
 use Rattle.jesc_lexer.specs.declared.token.Token.{Token}
 use Rattle.jesc_lexer.specs.Spans.{AreSpans}

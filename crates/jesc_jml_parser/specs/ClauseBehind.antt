@@ -1,11 +1,10 @@
 -- A member in an annotation behind modifiers that were read before: the longest one, and no other refusals.
-use Rattle.std.proofs.Common.{◌≡◌, ℕ, ◌+◌, ◌-◌, ◌≤◌, ◌<◌, true, false, List, [], ◌∷◌, ◌++◌, length, Ok, refl, sym, ap, ◌∙◌, subst, append_assoc, length-append, arith}
+use Rattle.std.proofs.Common.{◌≡◌, ℕ, true, false, List, [], ◌∷◌, ◌++◌, length, Ok, refl, sym, ap, ◌∙◌, subst, append_assoc, length-append, arith}
 use Rattle.jesc_text.specs.declared.place.Span.{Span}
 use Rattle.jesc_ast.specs.declared.word.Word.{Word}
 use Rattle.jesc_ast.specs.Lexemes.{Lexeme, join}
 use Rattle.jesc_ast.specs.FileTrees.{MemberForm, Member, member_of}
 use Rattle.jesc_ast.specs.Members.{SpellsNoteModifiers}
-use Rattle.jesc_ast.specs.Depth.{depth}
 use Rattle.jesc_jml_grammar.specs.declared.note_word.NoteWord.{NoteWord}
 use Rattle.jesc_jml_grammar.specs.declared.note_word.NoteWord.TheVariants as w
 use Rattle.jesc_jml_grammar.specs.Steps.{Parser, pure}

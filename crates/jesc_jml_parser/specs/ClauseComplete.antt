@@ -1,8 +1,7 @@
 -- The lexemes of a member in an annotation are read as this member, where what stands behind does not go on with it.
-use Rattle.std.proofs.Common.{◌≡◌, ℕ, ◌+◌, ◌≤◌, ◌<◌, true, false, not, ◌||◌, Option, List, [], ◌∷◌, ◌++◌, length, Ok, refl, sym, ap, ap₂, ◌∙◌, append_assoc, arith, IsTrue, codes}
+use Rattle.std.proofs.Common.{◌≡◌, ℕ, ◌≤◌, ◌<◌, true, false, not, Option, List, [], ◌∷◌, ◌++◌, length, Ok, refl, sym, ap, ap₂, ◌∙◌, append_assoc, arith, IsTrue, codes}
 use Rattle.std.proofs.lemmas.Bool.{and_right}
 use Rattle.std.proofs.lemmas.List.{length-append}
-use Rattle.std.specs.Prelude.{◌&&◌}
 use Rattle.jesc_text.specs.declared.place.Span.{Span}
 use Rattle.jesc_ast.specs.declared.word.Word.{Word}
 use Rattle.jesc_ast.specs.declared.word.TypeTree.{TypeTree}
@@ -15,7 +14,6 @@ use Rattle.jesc_ast.specs.Members.{is_note_modifier, SpellsNoteModifiers, is_fie
 use Rattle.jesc_jml_grammar.specs.declared.mark.Mark.TheVariants as m
 use Rattle.jesc_jml_grammar.specs.declared.note_word.NoteWord.TheVariants as w
 use Rattle.jesc_jml_grammar.specs.Steps.{Outcome, Parser, mark_at, same_mark}
-use Rattle.jesc_jml_grammar.specs.Reading as reading
 use Rattle.jesc_jml_grammar.specs.Reading.{word_of, expr}
 use Rattle.jesc_jml_parser.specs.CompleteMarks.{took_sign, took_name, name_at}
 use Rattle.jesc_jml_parser.specs.CompleteSteps.{parsed}

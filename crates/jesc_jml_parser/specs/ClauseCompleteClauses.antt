@@ -1,5 +1,5 @@
 -- The lexemes of the clauses of a specification are read as these.
-use Rattle.std.proofs.Common.{◌≡◌, ℕ, zero, suc, ◌+◌, ◌≤◌, ◌<◌, max, Bool, true, false, Option, List, [], ◌∷◌, ◌++◌, length, Ok, refl, sym, ap, ap₂, ◌∙◌, append_assoc, append-nil, arith, IsTrue, codes}
+use Rattle.std.proofs.Common.{◌≡◌, ℕ, zero, suc, ◌≤◌, ◌<◌, max, Bool, true, false, Option, List, [], ◌∷◌, ◌++◌, length, Ok, refl, sym, ap, ap₂, ◌∙◌, append_assoc, append-nil, arith, IsTrue, codes}
 use Rattle.std.proofs.lemmas.Bool.{and_parts}
 use Rattle.std.proofs.lemmas.List.{length-append}
 use Rattle.std.specs.List.{list_all}
@@ -9,7 +9,6 @@ use Rattle.jesc_ast.specs.declared.word.Word.{Word}
 use Rattle.jesc_ast.specs.Lexemes.{Lexeme, word, backslash, chosen_word, sign, kept}
 use Rattle.jesc_ast.specs.Words.{is_name}
 use Rattle.jesc_ast.specs.Trees.{Expression, Clause, clause}
-use Rattle.jesc_ast.specs.SpecTrees as trees
 use Rattle.jesc_ast.specs.SpecTrees.{Store, Promise, promises, assigns, signals, signals_only}
 use Rattle.jesc_ast.specs.Depth.{depth, nesting, of_option, of_clauses, of_stores, of_spec_clause, of_spec_clauses}
 use Rattle.jesc_ast.specs.Statements.{no_clauses, more_clauses}

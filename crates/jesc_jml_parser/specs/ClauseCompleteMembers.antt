@@ -1,8 +1,7 @@
 -- The steps of a member in an annotation.
-use Rattle.std.proofs.Common.{◌≡◌, ℕ, zero, suc, ◌+◌, ◌≤◌, ◌<◌, true, false, not, ◌||◌, Option, Some, List, [], ◌∷◌, ◌++◌, length, Ok, refl, sym, ap, ◌∙◌, append_assoc, append-nil, arith, IsTrue, codes}
+use Rattle.std.proofs.Common.{◌≡◌, ℕ, zero, suc, ◌≤◌, ◌<◌, true, false, not, Option, Some, List, [], ◌∷◌, ◌++◌, length, Ok, refl, sym, ap, ◌∙◌, append_assoc, append-nil, arith, IsTrue, codes}
 use Rattle.std.proofs.lemmas.Bool.{and_from, or_left, not-true, both_ways, false_from_ne_true}
 use Rattle.std.proofs.lemmas.List.{length-append}
-use Rattle.std.specs.Prelude.{◌&&◌}
 use Rattle.jesc_text.specs.declared.place.Span.{Span}
 use Rattle.jesc_ast.specs.declared.word.Word.{Word}
 use Rattle.jesc_ast.specs.declared.word.TypeTree.{TypeTree}
@@ -17,7 +16,6 @@ use Rattle.jesc_ast.specs.Members.{is_note_modifier, SpellsNoteModifiers, no_not
 use Rattle.jesc_jml_grammar.specs.declared.mark.Mark.TheVariants as m
 use Rattle.jesc_jml_grammar.specs.declared.note_word.NoteWord.TheVariants as w
 use Rattle.jesc_jml_grammar.specs.Steps.{Parser, take_one}
-use Rattle.jesc_jml_grammar.specs.Reading as reading
 use Rattle.jesc_jml_grammar.specs.Reading.{Parsed, expr}
 use Rattle.jesc_jml_parser.specs.CompleteMarks.{took_sign, took_name}
 use Rattle.jesc_jml_grammar.specs.ClauseMarks.{plain_word, sign_word, note_word, same_word, word_at, at_word, is_modifier_word, is_represents_sign}

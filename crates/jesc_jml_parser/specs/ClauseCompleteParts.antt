@@ -1,5 +1,5 @@
 -- The lexemes of lists of store references, and of what may be missing in a clause, are read as these.
-use Rattle.std.proofs.Common.{◌≡◌, ℕ, zero, suc, ◌+◌, ◌≤◌, ◌<◌, max, true, false, Option, Some, List, [], ◌∷◌, ◌++◌, length, refl, sym, ap, ap₂, ◌∙◌, append_assoc, arith, IsTrue, codes}
+use Rattle.std.proofs.Common.{◌≡◌, ℕ, zero, suc, ◌≤◌, ◌<◌, max, true, false, Option, Some, List, [], ◌∷◌, ◌++◌, length, refl, sym, ap, ap₂, ◌∙◌, append_assoc, arith, IsTrue, codes}
 use Rattle.std.proofs.lemmas.Bool.{both_ways}
 use Rattle.std.proofs.lemmas.List.{length-append}
 use Rattle.jesc_text.specs.declared.place.Span.{Span}
@@ -7,7 +7,6 @@ use Rattle.jesc_ast.specs.declared.word.Word.{Word}
 use Rattle.jesc_ast.specs.Lexemes.{Lexeme, backslash, chosen_backslash, sign}
 use Rattle.jesc_ast.specs.Words.{is_one_of}
 use Rattle.jesc_ast.specs.Trees.{Expression}
-use Rattle.jesc_ast.specs.SpecTrees as trees
 use Rattle.jesc_ast.specs.SpecTrees.{Store}
 use Rattle.jesc_ast.specs.Expressions.{SpellsExpression}
 use Rattle.jesc_ast.specs.Depth.{depth, nesting, of_option, of_store, of_stores}

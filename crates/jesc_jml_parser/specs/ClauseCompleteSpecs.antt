@@ -1,14 +1,13 @@
 -- The lexemes of a specification are read as this specification, where what stands behind does not go on with it.
-use Rattle.std.proofs.Common.{◌≡◌, ℕ, zero, suc, ◌+◌, ◌≤◌, ◌<◌, max, Bool, true, false, ◌||◌, Option, Some, None, List, [], ◌∷◌, ◌++◌, length, Ok, Err, refl, sym, ap, ap₂, ◌∙◌, append_assoc, arith, IsTrue}
+use Rattle.std.proofs.Common.{◌≡◌, ℕ, zero, suc, ◌≤◌, ◌<◌, max, Bool, true, false, Option, Some, None, List, [], ◌∷◌, ◌++◌, length, Ok, Err, refl, sym, ap, ap₂, ◌∙◌, append_assoc, arith, IsTrue}
 use Rattle.std.proofs.lemmas.Bool.{or_parts, and_right}
 use Rattle.std.proofs.lemmas.List.{length-append}
-use Rattle.std.specs.Prelude.{◌&&◌}
 use Rattle.std.specs.List.{list_all}
 use Rattle.jesc_text.specs.declared.place.Span.{Span}
 use Rattle.jesc_ast.specs.declared.word.Word.{Word}
 use Rattle.jesc_ast.specs.Lexemes.{Lexeme, word, chosen_word, kept, join, span_of_all}
 use Rattle.jesc_ast.specs.Trees.{Clause}
-use Rattle.jesc_ast.specs.SpecTrees.{Promise, promises, assigns, signals, signals_only, Case, case_of, Specification, specification}
+use Rattle.jesc_ast.specs.SpecTrees.{Promise, promises, assigns, signals, signals_only, Case, case_of, Specification}
 use Rattle.jesc_ast.specs.Depth.{depth, nesting, of_clauses, of_spec_clauses, of_cases}
 use Rattle.jesc_ast.specs.Statements.{no_clauses, more_clauses}
 use Rattle.jesc_ast.specs.Specifications.{SpellsSpecClauses, more_spec_clauses, is_heading, may_stand, no_visibility, some_visibility, SpellsDemands, SpellsCase, is_headed, is_demanding, is_promising, SpellsCases, last_case, first_case, SpellsSpec, is_first_spec, is_further_spec}

@@ -6,7 +6,6 @@ use Rattle.jesc_text.specs.declared.place.Span.{Span}
 use Rattle.jesc_ast.specs.Lexemes.{Lexeme, word, chosen_word, sign, kept, join}
 use Rattle.jesc_ast.specs.Words.{is_name}
 use Rattle.jesc_ast.specs.Trees.{Expression, name, this, member, index}
-use Rattle.jesc_ast.specs.SpecTrees as trees
 use Rattle.jesc_ast.specs.SpecTrees.{Store}
 use Rattle.jesc_ast.specs.Expressions.{span_of, Spells, SpellsExpression, is_this, is_plain_name, is_member, is_index}
 use Rattle.jesc_ast.specs.Depth.{depth, nesting, of_store}

@@ -1,15 +1,14 @@
 -- How many lexemes the rules of store references and of clauses take, and a stop at the limits.
-use Rattle.std.proofs.Common.{◌≡◌, ◌⊎◌, ℕ, zero, suc, ◌+◌, ◌-◌, ◌≤◌, ◌<◌, Bool, true, false, if◌then◌else◌, nat_lt, nat_le, List, [], ◌∷◌, Ok, arith, inr}
+use Rattle.std.proofs.Common.{◌≡◌, ℕ, zero, suc, ◌+◌, ◌-◌, ◌≤◌, ◌<◌, Bool, true, false, if◌then◌else◌, nat_lt, nat_le, List, [], Ok, arith, inr}
 use Rattle.std.proofs.lemmas.Bool.{ltb-false, leb-false}
 use Rattle.jesc_ast.specs.Lexemes.{Lexeme}
 use Rattle.jesc_ast.specs.Trees.{name}
-use Rattle.jesc_ast.specs.SpecTrees as trees
 use Rattle.jesc_ast.specs.SpecTrees.{Store}
 use Rattle.jesc_jml_grammar.specs.declared.mark.Mark.{Mark}
 use Rattle.jesc_jml_grammar.specs.declared.mark.Mark.TheVariants as m
 use Rattle.jesc_jml_grammar.specs.declared.note_word.NoteWord.{NoteWord}
 use Rattle.jesc_jml_grammar.specs.declared.note_word.NoteWord.TheVariants as w
-use Rattle.jesc_jml_grammar.specs.Steps.{Outcome, Parser, and_then, ◌>>=◌, ◌>>◌, refuse, too_deep, mark_at, same_mark, take_one, expect}
+use Rattle.jesc_jml_grammar.specs.Steps.{Outcome, Parser, and_then, ◌>>◌, refuse, too_deep, mark_at, same_mark, take_one, expect}
 use Rattle.jesc_jml_grammar.specs.Reading as reading
 use Rattle.jesc_jml_grammar.specs.Reading.{Parsed, Start, at_first, leaf}
 use Rattle.jesc_jml_parser.specs.Spending.{Spent, spent_bind, spent_if, spent_pure, spent_deep, spent_one, spent_expect, spent_shift}

@@ -1,5 +1,5 @@
 -- What the call that parses an expression answers.
-use Rattle.std.specs.Prelude.{◌≡◌, ℕ, ◌+◌, ◌-◌, ◌≤◌, Bool, List, length, drop, Result, Ok, Err}
+use Rattle.std.specs.Prelude.{◌≡◌, ℕ, ◌-◌, ◌≤◌, Bool, List, length, drop, Result, Ok, Err}
 use Rattle.jesc_lexer.specs.declared.token.Tokens.{Tokens}
 use Rattle.jesc_ast.specs.declared.expr.Expr.{Expr}
 use Rattle.jesc_ast.specs.Lexemes.{Lexeme, lexemes}

@@ -1,5 +1,5 @@
 -- What a syntax error tells of the token that it stands at.
-use Rattle.std.specs.Prelude.{◌≡◌, ℕ, ◌-◌, ◌≤◌, Bool, true, false, ◌&&◌, ◌⊎◌, IsTrue, Option, Some, None, List, [], ◌∷◌, codes, length, slice_get, slice_range}
+use Rattle.std.specs.Prelude.{◌≡◌, ℕ, ◌-◌, ◌≤◌, Bool, true, false, ◌⊎◌, IsTrue, Option, Some, None, List, [], ◌∷◌, codes, length, slice_get, slice_range}
 use Rattle.jesc_text.specs.Places.{line_at, column_at}
 use Rattle.jesc_text.specs.declared.place.Place.{Place}
 use Rattle.jesc_lexer.specs.declared.token.Token.{Token}

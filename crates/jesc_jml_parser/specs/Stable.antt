@@ -1,5 +1,5 @@
 -- A parser of expressions with more room answers the same.
-use Rattle.std.proofs.Common.{◌≡◌, ℕ, zero, suc, ◌+◌, ◌-◌, ◌≤◌, Bool, true, false, List, [], ◌∷◌, ◌++◌, length, Ok, Err, refl, ap, ◌∙◌, arith}
+use Rattle.std.proofs.Common.{◌≡◌, ℕ, zero, suc, ◌-◌, ◌≤◌, Bool, true, false, List, [], length, Ok, Err, refl, ap, ◌∙◌, arith}
 use Rattle.std.specs.Prelude.{if◌then◌else◌, nat_lt, nat_le, ◌&&◌, ◌||◌}
 use Rattle.jesc_text.specs.declared.place.Span.{Span}
 use Rattle.jesc_ast.specs.declared.word.TypeTree.{TypeTree}
@@ -9,10 +9,10 @@ use Rattle.jesc_ast.specs.Trees.{Receiver, implied, on, name, member}
 use Rattle.jesc_jml_grammar.specs.declared.mark.Mark.{Mark}
 use Rattle.jesc_jml_grammar.specs.declared.mark.Mark.TheVariants as m
 use Rattle.jesc_jml_grammar.specs.declared.fault.Fault.TheVariants.{Unexpected}
-use Rattle.jesc_jml_grammar.specs.Steps.{Parser, mark_at, too_deep, refuse, same_mark, ◌>>=◌, ◌>>◌, expect}
+use Rattle.jesc_jml_grammar.specs.Steps.{Parser, mark_at, too_deep, refuse, same_mark, ◌>>=◌, expect}
 use Rattle.jesc_jml_grammar.specs.Reading as spec
 use Rattle.jesc_jml_grammar.specs.Reading.{Parsed, Listed, Start, at_first, behind_name, behind_bracket, opens_at, allows_prefix, casts, grows, is_type_mark, is_quantifier_mark, is_bound_mark, right_of, with_last, nothing, leaf, lone_name, over, word_of}
-use Rattle.jesc_jml_grammar.specs.Refining.{Refines, refines_pure, refines_refuse, refines_deep, refines_peek, refines_take_one, refines_bind, refines_if, refines_expect, refines_peek_again, refines_unbounded, refines_long, head, mark_at-head}
+use Rattle.jesc_jml_grammar.specs.Refining.{Refines, refines_pure, refines_refuse, refines_deep, refines_peek, refines_take_one, refines_bind, refines_if, refines_expect, refines_peek_again, refines_unbounded, refines_long, mark_at-head}
 
 -- where there is room on the left, there is on the right
 pub refines_room : (same : Bool) {A : Type 0} (b b' : Bool) (p q : Parser A) → (b ≡ true → b' ≡ true) → (same ≡ true → b ≡ b') → Refines same p q

@@ -74,6 +74,9 @@ fn read_expr(
 /// taken where those before it spell none: `Token` (S1) or, of a word that the language leaves out, `LeftOut` (S2)
 /// where no expression goes on with it, and `Deep` (S3) where all that do have more than 200 nodes from the root to a
 /// leaf or more than three nested quantifiers. Answers `OutOfMemory` where there is no room for the tree.
+///
+/// Expressions are those of JLS 15 that the language has, and in annotations those of the JML Reference Manual's
+/// chapter on expressions too.
 pub fn parse_expr(
     alloc: Global,
     tokens: &Tokens,

@@ -50,6 +50,8 @@ fn read_clauses(alloc: Global, tokens: &Tokens, from: u32) -> Result<(SpecTree, 
 /// language leaves out, `LeftOut` (S2) where no specification goes on with it, and `Deep` (S3) where all that do have
 /// an expression of more than 200 nodes from the root to a leaf, or of more than three nested quantifiers. Answers
 /// `OutOfMemory` where there is no room for the tree.
+///
+/// Specifications are those of the JML Reference Manual's chapter on method specifications that the language has.
 pub fn parse_clauses(
     alloc: Global,
     tokens: &Tokens,
@@ -91,6 +93,8 @@ fn read_member(alloc: Global, tokens: &Tokens, from: u32) -> Result<(MemberTree,
 /// behind it.
 ///
 /// All its tokens stand in annotations. Answers the same errors as `parse_clauses`, of a member.
+///
+/// Such members are those of the JML Reference Manual's chapter on specifications of types that the language has.
 pub fn parse_member_annotation(
     alloc: Global,
     tokens: &Tokens,
