@@ -3,5 +3,6 @@ pub mod ListTurns
 pub mod StatementNodes
 pub mod CatchEnds
 pub mod Room
+pub mod Turns
 pub mod LineStarts
 pub mod StatementRules

@@ -3,13 +3,13 @@ use Rattle.std.specs.Prelude.{ℕ, zero, suc, ◌-◌, Bool, true, false, ◌&&�
 use Rattle.jesc_text.specs.declared.place.Span.{Span}
 use Rattle.jesc_ast.specs.declared.word.TypeTree.{TypeTree}
 use Rattle.jesc_ast.specs.Lexemes.{Lexeme, join}
-use Rattle.jesc_ast.specs.Trees.{Expression, super, Clause, clause, Statement, Body, Catch, OptionalStatement}
-use Rattle.jesc_ast.specs.Expressions.{type_tree}
+use Rattle.jesc_ast.specs.Trees.{Expression, name, member, Receiver, implied, super, on, Clause, clause, Statement, Body, Catch, OptionalStatement}
+use Rattle.jesc_ast.specs.Expressions.{span_of, type_tree}
 use Rattle.jesc_ast.specs.Statements.{is_target, is_call}
 use Rattle.jesc_jml_grammar.specs.declared.mark.Mark.{Mark}
 use Rattle.jesc_jml_grammar.specs.declared.mark.Mark.TheVariants as m
 use Rattle.jesc_jml_grammar.specs.Steps.{Parser, ◌>>=◌, ◌>>◌, pure, refuse, too_deep, same_mark, peek, expect}
-use Rattle.jesc_jml_grammar.specs.Reading.{Parsed, Start, at_first, behind_name, behind_bracket, word_of, type_, arguments, called, climb}
+use Rattle.jesc_jml_grammar.specs.Reading.{Parsed, Start, at_first, behind_name, behind_bracket, word_of, leaf, over, grows, type_, arguments, called, indexed_behind, longer_by, climb}
 use Rattle.jesc_java_grammar.specs.declared.statement_mark.StatementMark.{StatementMark}
 use Rattle.jesc_java_grammar.specs.declared.statement_mark.StatementMark.TheVariants as s
 use Rattle.jesc_java_grammar.specs.declared.statement_mark.Slot.{Slot}
@@ -39,21 +39,93 @@ module _ (limit room : ℕ) (expression : Bool → ℕ → ℕ → ℕ → Start
   abbrev pub type_inside : Bool → Parser TypeTree
   type_inside note = type_ note limit (room - 1) (expression note (room - 1)) quantifiers
 
-  -- ---- targets and calls
+  -- ---- calls
 
   -- names, brackets and calls behind an expression
   unfoldable pub longer : Bool → Parsed → Parser Parsed
   longer note a = climb note limit (room - 1) (expression note (room - 1)) quantifiers 11 room a
 
   -- What neither a target nor a call is yet has a node above it. The strength 13 leaves what goes on with it.
+  abbrev pub headed_first : Bool → Parser Parsed
+  headed_first note = expression note (room - 1) quantifiers 13 at_first
+
   unfoldable pub headed : Bool → Parser Parsed
   headed note = do
-    a ← expression note (room - 1) quantifiers 13 at_first
+    a ← headed_first note
     longer note a
 
+  -- ---- targets
+
+  -- a call in a target, which has a node above it, behind the name of the method
+  unfoldable pub called_under : Bool → Span → Receiver → ℕ → Lexeme → Parser Parsed
+  called_under note first receiver depth x =
+      if nat_lt (suc depth) room then called note limit (room - 2) (expression note (room - 2)) quantifiers first receiver depth x else too_deep
+
+  abbrev pub member_called_under : Bool → Parsed → Lexeme → Lexeme → Parser Parsed
+  member_called_under note a dot x = called_under note (span_of a.tree) (on a.tree dot.span) a.depth x
+
+  -- behind the name of a member: a call of it, or the member alone
+  unfoldable pub target_member : Bool → Parsed → Lexeme → Lexeme → Parser Parsed
+  target_member note a dot x = do
+    mark ← peek note
+    if same_mark mark m.LeftParen then member_called_under note a dot x else pure (over 12 a (member (join (span_of a.tree) x.span) a.tree dot.span (word_of x)))
+
+  unfoldable pub target_dotted : Bool → Parsed → Parser Parsed
+  target_dotted note a = do
+    dot ← expect note m.Dot
+    x ← expect note m.Name
+    target_member note a dot x
+
+  abbrev pub target_longer_by : Bool → Parsed → Mark → Parser Parsed
+  target_longer_by note a m.Dot = target_dotted note a
+  target_longer_by note a mark = longer_by note limit (room - 1) (expression note (room - 1)) quantifiers a mark
+
+  -- names, brackets and calls behind the beginning of a target, in so many turns
+  unfoldable pub target_longer : Bool → ℕ → Parsed → Parser Parsed
+  target_longer note zero a = too_deep
+  target_longer note (suc n) a = do
+    mark ← peek note
+    if grows a.strength mark 11 then (if nat_lt a.depth room then (target_longer_by note a mark >>= target_longer note n) else too_deep) else pure a
+
+  -- behind the name that a target begins with: a call, or the name alone
+  unfoldable pub target_name : Bool → Lexeme → Parser Parsed
+  target_name note x = do
+    mark ← peek note
+    if same_mark mark m.LeftParen then called_under note x.span implied 0 x else pure (leaf (name x.span x.text))
+
+  abbrev pub target_index : Bool → Lexeme → Lexeme → Parser Parsed
+  target_index note x p = indexed_behind note limit (room - 1) (expression note (room - 1)) quantifiers (leaf (name x.span x.text)) p
+
+  abbrev pub target_begun : Bool → Start → Parser Parsed
+  target_begun note at_first = refuse
+  target_begun note (behind_name x) = target_name note x
+  target_begun note (behind_bracket x p) = target_index note x p
+
+  unfoldable pub target_behind : Bool → Start → Parser Parsed
+  target_behind note start = do
+    a ← target_begun note start
+    target_longer note room a
+
+  -- behind the first name of a target, or a bracket behind that
+  abbrev pub target_from : Bool → Start → Parser Parsed
+  target_from note start = deeper (target_behind note start)
+
+  unfoldable pub headed_target : Bool → Parser Parsed
+  headed_target note = do
+    a ← headed_first note
+    target_longer note room a
+
+  unfoldable pub named_target : Bool → Parser Parsed
+  named_target note = do
+    x ← expect note m.Name
+    target_from note (behind_name x)
+
+  abbrev pub roomy_target : Bool → Parser Parsed
+  roomy_target note = deeper (named_target note)
+
   abbrev pub postfix_by : Bool → Mark → Parser Parsed
-  postfix_by note m.Name = inside note 11 at_first
-  postfix_by note _ = headed note
+  postfix_by note m.Name = roomy_target note
+  postfix_by note _ = headed_target note
 
   unfoldable pub postfix : Bool → Parser Parsed
   postfix note = do
@@ -127,17 +199,21 @@ module _ (limit room : ℕ) (expression : Bool → ℕ → ℕ → ℕ → Start
 
   -- ---- simple statements; with `locals` and `calls` it may be a local, or a call
 
+  -- what may be a target, or with `calls` a call
+  abbrev pub act_from : Bool → Start → Parser Parsed
+  act_from calls start = if calls then inside false 11 start else target_from false start
+
   unfoldable pub acted_from : Bool → Start → Parser Piece
   acted_from calls start = do
-    a ← inside false 11 start
+    a ← act_from calls start
     acted calls a
 
-  -- behind a name and a bracket
-  unfoldable pub bracketed : Bool → Bool → Lexeme → Parser Piece
-  bracketed locals calls x = do
+  -- behind a name and a bracket, where a local may stand
+  unfoldable pub bracketed : Bool → Lexeme → Parser Piece
+  bracketed calls x = do
     p ← expect false m.LeftBracket
     mark ← peek false
-    if same_mark mark m.RightBracket && locals then array_local x else acted_from calls (behind_bracket x p)
+    if same_mark mark m.RightBracket then array_local x else acted_from calls (behind_bracket x p)
 
   -- a local whose type is this name
   abbrev pub plain_local : Lexeme → Parser Piece
@@ -145,7 +221,7 @@ module _ (limit room : ℕ) (expression : Bool → ℕ → ℕ → ℕ → Start
 
   abbrev pub named_by : Bool → Bool → Lexeme → Mark → Parser Piece
   named_by true calls x m.Name = plain_local x
-  named_by locals calls x m.LeftBracket = bracketed locals calls x
+  named_by true calls x m.LeftBracket = bracketed calls x
   named_by locals calls x _ = acted_from calls (behind_name x)
 
   unfoldable pub named : Bool → Bool → Parser Piece
@@ -154,9 +230,12 @@ module _ (limit room : ℕ) (expression : Bool → ℕ → ℕ → ℕ → Start
     mark ← peek false
     named_by locals calls x mark
 
+  abbrev pub act_at_head : Bool → Parser Parsed
+  act_at_head calls = if calls then headed false else headed_target false
+
   unfoldable pub headed_act : Bool → Parser Piece
   headed_act calls = do
-    a ← headed false
+    a ← act_at_head calls
     acted calls a
 
   abbrev pub roomy_named : Bool → Bool → Parser Piece
@@ -471,9 +550,9 @@ module _ (limit room : ℕ) (expression : Bool → ℕ → ℕ → ℕ → Start
     expect false m.LeftParen
     is_final ← optional_final
     class ← expect false m.Name
-    name ← expect false m.Name
+    parameter ← expect false m.Name
     expect false m.RightParen
-    pure (record { is_final = is_final; class = class; name = name })
+    pure (record { is_final = is_final; class = class; name = parameter })
 
   unfoldable pub catch_ : Parser (Sized Catch)
   catch_ = do

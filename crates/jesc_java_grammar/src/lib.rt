@@ -38,5 +38,6 @@ pub mod roomy;
 pub mod statement;
 pub mod statement_mark;
 pub mod super_part;
+pub mod target;
 pub mod types;
 pub mod word;

@@ -7,14 +7,12 @@ ghost use Rattle.jesc_jml_grammar.specs.Steps.{Reads};
 ghost use Rattle.jesc_java_grammar.specs.StatementReading as spec;
 ghost use Rattle.jesc_java_grammar.specs.Views.{part};
 
-use crate::form::is_target;
 use jesc_ast::TypeTree;
 use jesc_jml_grammar::cursor::Cursor;
 use jesc_jml_grammar::expr::expr;
 use jesc_jml_grammar::fault::ParseError;
 use jesc_jml_grammar::found::{Found, Start};
 use jesc_jml_grammar::grammar::Grammar;
-use jesc_jml_grammar::mark::Mark;
 use std::alloc::Global;
 
 /// The rules of one statement.
@@ -89,6 +87,17 @@ impl Parts {
         .climb(cursor, 11, self.room, first)
     }
 
+    /// The beginning of what is neither a target nor a call yet, and so has a node above it.
+    pub fn headed_first(&self, cursor: &mut Cursor<'_>) -> Result<Found, ParseError>
+        requires room { self.now.room < 1000 }
+        ensures reads { Reads parsed (part spec.headed_first self.now.room cursor.old.note (seen cursor.old)) result (seen cursor.new) }
+        ensures kept { IsKept cursor.old cursor.new }
+        ensures bounded { IfOk result (λ f. f.depth ≤ self.now.room) }
+    {
+        let inner = self.room.saturating_sub(1);
+        expr(self.alloc, cursor, inner, QUANTIFIERS, 13, Start::AtFirst)
+    }
+
     /// What begins otherwise than with a name, and goes on.
     #[tactic(auto, unfolding(crate::specs::StatementReading::headed))]
     pub fn headed(&self, cursor: &mut Cursor<'_>) -> Result<Found, ParseError>
@@ -97,38 +106,7 @@ impl Parts {
         ensures kept { IsKept cursor.old cursor.new }
         ensures bounded { IfOk result (λ f. f.depth ≤ self.now.room) }
     {
-        let inner = self.room.saturating_sub(1);
-        let first = expr(self.alloc, cursor, inner, QUANTIFIERS, 13, Start::AtFirst)?;
+        let first = self.headed_first(cursor)?;
         self.longer(cursor, first)
-    }
-
-    /// What may be a target or a call.
-    #[tactic(auto, unfolding(crate::specs::StatementReading::postfix))]
-    fn postfix(&self, cursor: &mut Cursor<'_>) -> Result<Found, ParseError>
-        requires room { self.now.room < 1000 }
-        ensures reads { Reads parsed (part spec.postfix self.now.room cursor.old.note (seen cursor.old)) result (seen cursor.new) }
-        ensures kept { IsKept cursor.old cursor.new }
-        ensures bounded { IfOk result (λ f. f.depth ≤ self.now.room) }
-    {
-        match cursor.peek() {
-            Mark::Name => self.inside(cursor, 11, Start::AtFirst),
-            _ => self.headed(cursor),
-        }
-    }
-
-    /// What an assignment may change.
-    #[tactic(auto, unfolding(crate::specs::StatementReading::target))]
-    pub fn target(&self, cursor: &mut Cursor<'_>) -> Result<Found, ParseError>
-        requires room { self.now.room < 1000 }
-        ensures reads { Reads parsed (part spec.target self.now.room cursor.old.note (seen cursor.old)) result (seen cursor.new) }
-        ensures kept { IsKept cursor.old cursor.new }
-        ensures bounded { IfOk result (λ f. f.depth ≤ self.now.room) }
-    {
-        let found = self.postfix(cursor)?;
-        if is_target(&found.expr) {
-            Ok(found)
-        } else {
-            Err(cursor.refuse())
-        }
     }
 }

@@ -171,6 +171,26 @@ impl Parts {
         self.named_local(cursor, x.span, false, ty)
     }
 
+    /// What may be a target, or with `calls` a call.
+    fn act_from(
+        &self,
+        cursor: &mut Cursor<'_>,
+        calls: bool,
+        start: Start<'_>,
+    ) -> Result<Found, ParseError>
+        requires room { self.now.room < 1000 }
+        requires side { cursor.old.note ≡ false }
+        ensures reads { Reads parsed (part spec.act_from self.now.room calls (start_of start.entry) (seen cursor.old)) result (seen cursor.new) }
+        ensures kept { IsKept cursor.old cursor.new }
+        ensures bounded { IfOk result (λ f. f.depth ≤ self.now.room) }
+    {
+        if calls {
+            self.inside(cursor, 11, start)
+        } else {
+            self.target_from(cursor, start)
+        }
+    }
+
     #[tactic(auto, unfolding(crate::specs::StatementReading::acted_from))]
     fn acted_from(
         &self,
@@ -184,7 +204,7 @@ impl Parts {
         ensures kept { IsKept cursor.old cursor.new }
         ensures bounded { IfOk result (λ f. f.depth ≤ self.now.room + 1) }
     {
-        let a = self.inside(cursor, 11, start)?;
+        let a = self.act_from(cursor, calls, start)?;
         self.acted(cursor, calls, a)
     }
 
@@ -193,18 +213,17 @@ impl Parts {
     fn bracketed(
         &self,
         cursor: &mut Cursor<'_>,
-        locals: bool,
         calls: bool,
         x: Lexeme<'_>,
     ) -> Result<Measured<Stmt>, ParseError>
         requires room { self.now.room < 1000 }
         requires side { cursor.old.note ≡ false }
-        ensures reads { Reads piece (part spec.bracketed self.now.room locals calls (lexeme x.entry) (seen cursor.old)) result (seen cursor.new) }
+        ensures reads { Reads piece (part spec.bracketed self.now.room calls (lexeme x.entry) (seen cursor.old)) result (seen cursor.new) }
         ensures kept { IsKept cursor.old cursor.new }
         ensures bounded { IfOk result (λ f. f.depth ≤ self.now.room + 1) }
     {
         let open = cursor.expect(Mark::LeftBracket)?;
-        if same_mark(cursor.peek(), Mark::RightBracket) && locals {
+        if same_mark(cursor.peek(), Mark::RightBracket) {
             return self.array_local(cursor, x);
         }
         self.acted_from(cursor, calls, Start::BehindBracket(x, open))
@@ -241,8 +260,23 @@ impl Parts {
         let x = cursor.expect(Mark::Name)?;
         match (locals, cursor.peek()) {
             (true, Mark::Name) => self.plain_local(cursor, x),
-            (_, Mark::LeftBracket) => self.bracketed(cursor, locals, calls, x),
+            (true, Mark::LeftBracket) => self.bracketed(cursor, calls, x),
             _ => self.acted_from(cursor, calls, Start::BehindName(x)),
+        }
+    }
+
+    /// The same, where it begins otherwise than with a name.
+    fn act_at_head(&self, cursor: &mut Cursor<'_>, calls: bool) -> Result<Found, ParseError>
+        requires room { self.now.room < 1000 }
+        requires side { cursor.old.note ≡ false }
+        ensures reads { Reads parsed (part spec.act_at_head self.now.room calls (seen cursor.old)) result (seen cursor.new) }
+        ensures kept { IsKept cursor.old cursor.new }
+        ensures bounded { IfOk result (λ f. f.depth ≤ self.now.room) }
+    {
+        if calls {
+            self.headed(cursor)
+        } else {
+            self.headed_target(cursor)
         }
     }
 
@@ -254,7 +288,7 @@ impl Parts {
         ensures kept { IsKept cursor.old cursor.new }
         ensures bounded { IfOk result (λ f. f.depth ≤ self.now.room + 1) }
     {
-        let a = self.headed(cursor)?;
+        let a = self.act_at_head(cursor, calls)?;
         self.acted(cursor, calls, a)
     }
 

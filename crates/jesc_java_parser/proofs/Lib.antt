@@ -4,6 +4,7 @@ pub mod StatementStable
 pub mod FileStable
 pub mod LexingSound
 pub mod PieceSound
+pub mod TargetSound
 pub mod SimpleSound
 pub mod PartSound
 pub mod WordSound
@@ -19,6 +20,7 @@ pub mod MemberSound
 pub mod ClassSound
 pub mod FileSound
 pub mod CompleteLexing
+pub mod CompleteTargetTails
 pub mod CompleteTargets
 pub mod CompleteActs
 pub mod CompletePieces

@@ -1,18 +1,18 @@
 -- How many lexemes the parts of a statement take, and a stop at the limits.
-use Rattle.std.proofs.Common.{◌≡◌, ℕ, ◌+◌, ◌-◌, ◌≤◌, ◌<◌, Bool, true, false, List, Option, refl, arith, codes}
+use Rattle.std.proofs.Common.{◌≡◌, ℕ, zero, suc, ◌+◌, ◌-◌, ◌≤◌, ◌<◌, Bool, true, false, List, Option, refl, arith, codes}
 use Rattle.std.specs.Prelude.{nat_lt, ◌&&◌, if◌then◌else◌}
 use Rattle.std.proofs.lemmas.Bool.{ltb-false}
 use Rattle.jesc_text.specs.declared.place.Span.{Span}
 use Rattle.jesc_ast.specs.declared.word.TypeTree.{TypeTree}
 use Rattle.jesc_ast.specs.Lexemes.{Lexeme, join}
-use Rattle.jesc_ast.specs.Trees.{Expression, super, OptionalStatement, clause}
-use Rattle.jesc_ast.specs.Expressions.{type_tree}
+use Rattle.jesc_ast.specs.Trees.{Expression, name, member, index, Receiver, implied, super, on, OptionalStatement, clause}
+use Rattle.jesc_ast.specs.Expressions.{span_of, type_tree}
 use Rattle.jesc_ast.specs.Statements.{is_target, is_call}
 use Rattle.jesc_jml_grammar.specs.declared.mark.Mark.{Mark}
 use Rattle.jesc_jml_grammar.specs.declared.mark.Mark.TheVariants as m
 use Rattle.jesc_jml_grammar.specs.Steps.{Outcome, Parser, and_then, refuse, too_deep, mark_at, same_mark, pure}
 use Rattle.jesc_jml_grammar.specs.Reading as reading
-use Rattle.jesc_jml_grammar.specs.Reading.{Parsed, Start, at_first, behind_name, behind_bracket, word_of, expr}
+use Rattle.jesc_jml_grammar.specs.Reading.{Parsed, Start, at_first, behind_name, behind_bracket, word_of, leaf, over, over_two, grows, expr}
 use Rattle.jesc_jml_grammar.specs.ClauseFound.{Sized, sized, no_items, with_more}
 use Rattle.jesc_jml_parser.specs.ClauseSpending.{Later}
 use Rattle.jesc_jml_parser.specs.DeepPlaces as places
@@ -36,12 +36,14 @@ module _ (limit room k : ℕ) where
   abbrev S : {A : Type 0} → (ℕ → A → Type 0) → ℕ → List Lexeme → Outcome A → Type 0
   S = Spends limit need
 
+  -- a choice, by what the test says
+  choice : {A : Type 0} (P : ℕ → A → Type 0) (c : ℕ) (b : Bool) (p q : Parser A) (ts : List Lexeme)
+      → (b ≡ true → S P c ts (p ts)) → (b ≡ false → S P c ts (q ts)) → S P c ts ((if b then p else q) ts)
+  choice P c true p q ts first second = first refl
+  choice P c false p q ts first second = second refl
+
   pub roomy : {A : Type 0} (P : ℕ → A → Type 0) (c : ℕ) (p : Parser A) (ts : List Lexeme) → S P c ts (p ts) → S P c ts (spec.deeper limit room (expression_of limit) k p ts)
-  roomy P c p ts enough = by (nat_lt 0 room) (λ none. omega (arith, ltb-false 0 room none))
-    where
-      by : (fits : Bool) → (fits ≡ false → need ≤ c) → S P c ts ((if fits then p else too_deep) ts)
-      by true many = enough
-      by false many = deep limit need P c ts (many refl)
+  roomy P c p ts enough = choice P c (nat_lt 0 room) p too_deep ts (λ fits. enough) (λ none. deep limit need P c ts (omega (arith, ltb-false 0 room none)))
 
   -- ---- expressions
 
@@ -64,12 +66,15 @@ module _ (limit room k : ℕ) where
       of_side note limit need need Shallow (Later b) c c ts (omega arith) (omega arith) (λ t e fits. omega arith) _
       (places.spent_climb note limit (room - 1) (expr note limit (room - 1)) (inner note) k 11 room a c low (omega arith) ts)
 
+  inner_tree : (note : Bool) (least c : ℕ) → 1 ≤ c → (ts : List Lexeme) → S (λ c' e. e.depth + c ≤ c') c ts (expr note limit (room - 1) k least at_first ts)
+  inner_tree note least c some ts =
+      of_side note limit (room - 1 - 1) need Shallow (λ c' e. e.depth + c ≤ c') 0 c ts (omega arith) (omega arith) (λ t e low. omega arith) (expr note limit (room - 1) k least at_first ts)
+      (inner note k least at_first ts)
+
   headed : (note : Bool) (b c : ℕ) → b ≤ c → 1 ≤ c → (ts : List Lexeme) → S (Later b) c ts (spec.headed limit room (expression_of limit) k note ts)
   unfolding spec.headed
   headed note b c le some ts =
-      after limit need (λ c' e. e.depth + c ≤ c') _ (Later b) c ts (expr note limit (room - 1) k 13 at_first ts)
-      (of_side note limit (room - 1 - 1) need Shallow (λ c' e. e.depth + c ≤ c') 0 c ts (omega arith) (omega arith) (λ t e low. omega arith) (expr note limit (room - 1) k 13 at_first ts)
-      (inner note k 13 at_first ts))
+      after limit need (λ c' e. e.depth + c ≤ c') _ (Later b) c ts (expr note limit (room - 1) k 13 at_first ts) (inner_tree note 13 c some ts)
       (λ a mid c1 e1. longer note a b c1 (omega arith) (omega arith) mid)
 
   pub type_inside : (note : Bool) (b c : ℕ) → b ≤ c → (ts : List Lexeme) → S (Later b) c ts (spec.type_inside limit room (expression_of limit) k note ts)
@@ -79,9 +84,115 @@ module _ (limit room k : ℕ) where
 
   -- ---- targets
 
+  -- no deeper than the lexemes are many, and so many at least
+  abbrev Flat : ℕ → ℕ → Parsed → Type 0
+  Flat b c e = (e.depth ≤ c) × (b ≤ c)
+
+  -- what the parser of the expressions inside says where there are two nodes less
+  under : (note : Bool) (n least : ℕ) (start : Start) (ts : List Lexeme) → Spent note limit (room - 2 - 1) Shallow (started start) ts (expr note limit (room - 2) n least start ts)
+  under note n least start ts = spent_expr note limit (room - 2) n least start ts
+
+  -- the name of the method makes up for one of them
+  called : (note : Bool) (first : Span) (r : Receiver) (depth : ℕ) (x : Lexeme) (b c : ℕ) → depth + 1 ≤ c → b ≤ c → (ts : List Lexeme)
+      → S (Flat b) c ts (reading.called note limit (room - 2) (expr note limit (room - 2)) k first r depth x ts)
+  called note first r depth x b c low le ts =
+      of_side note limit (room - 2) need (λ c' e. (e.depth ≤ c') × (c - 1 < c')) (Flat b) (c - 1) c ts (omega arith) (omega arith)
+      (λ t e (flat, late). (omega arith, omega arith)) _
+      (places.spent_called note limit (room - 2) (expr note limit (room - 2)) (under note) k first r depth x (c - 1) (omega arith) ts)
+
+  called_under : (note : Bool) (first : Span) (r : Receiver) (depth : ℕ) (x : Lexeme) (b c : ℕ) → depth + 1 ≤ c → b ≤ c → (ts : List Lexeme)
+      → S (Flat b) c ts (spec.called_under limit room (expression_of limit) k note first r depth x ts)
+  unfolding spec.called_under
+  called_under note first r depth x b c low le ts =
+      choice (Flat b) c (nat_lt (suc depth) room) _ too_deep ts (λ fits. called note first r depth x b c low le ts)
+      (λ short. deep limit need (Flat b) c ts (omega (arith, ltb-false (suc depth) room short)))
+
+  target_member : (note : Bool) (a : Parsed) (dot x : Lexeme) (b c : ℕ) → a.depth + 1 ≤ c → b ≤ c → (ts : List Lexeme)
+      → S (Flat b) c ts (spec.target_member limit room (expression_of limit) k note a dot x ts)
+  unfolding spec.target_member
+  target_member note a dot x b c low le ts =
+      either limit need (Flat b) c (same_mark (mark_at note ts) m.LeftParen) _ _ ts (called_under note (span_of a.tree) (on a.tree dot.span) a.depth x b c low le ts)
+      (done limit need (Flat b) c (over 12 a (member (join (span_of a.tree) x.span) a.tree dot.span (word_of x))) ts (low, le))
+
+  target_dotted : (note : Bool) (a : Parsed) (b c : ℕ) → a.depth ≤ c → b ≤ c + 1 → (ts : List Lexeme)
+      → S (Flat b) c ts (spec.target_dotted limit room (expression_of limit) k note a ts)
+  unfolding spec.target_dotted
+  target_dotted note a b c low le ts =
+      after_mark limit need note m.Dot _ (Flat b) c ts (λ dot t1 c1 e1.
+      after_mark limit need note m.Name _ (Flat b) c1 t1 (λ x t2 c2 e2. target_member note a dot x b c2 (omega arith) (omega arith) t2))
+
+  indexed_behind : (note : Bool) (a : Parsed) (p : Lexeme) (b c : ℕ) → a.depth ≤ c → 1 ≤ c → b ≤ c → (ts : List Lexeme)
+      → S (Flat b) c ts (reading.indexed_behind note limit (room - 1) (expr note limit (room - 1)) k a p ts)
+  unfolding reading.indexed_behind
+  indexed_behind note a p b c low some le ts =
+      after limit need (λ c' e. e.depth + c ≤ c') _ (Flat b) c ts (expr note limit (room - 1) k 1 at_first ts) (inner_tree note 1 c some ts) (λ i t1 c1 e1.
+      after_mark limit need note m.RightBracket _ (Flat b) c1 t1 (λ q t2 c2 e2.
+      done limit need (Flat b) c2 (over_two 12 a i (index (join (span_of a.tree) q.span) a.tree p.span i.tree)) t2 (omega arith, omega arith)))
+
+  indexed : (note : Bool) (a : Parsed) (b c : ℕ) → a.depth ≤ c → b ≤ c + 1 → (ts : List Lexeme)
+      → S (Flat b) c ts (reading.indexed note limit (room - 1) (expr note limit (room - 1)) k a ts)
+  unfolding reading.indexed
+  indexed note a b c low le ts =
+      after_mark limit need note m.LeftBracket _ (Flat b) c ts (λ p mid c1 e1. indexed_behind note a p b c1 (omega arith) (omega arith) (omega arith) mid)
+
+  -- no other mark binds so tightly
+  target_longer_by : (note : Bool) (a : Parsed) (mark : Mark) (b c : ℕ) → grows a.strength mark 11 ≡ true → a.depth ≤ c → b ≤ c + 1 → (ts : List Lexeme)
+      → S (Flat b) c ts (spec.target_longer_by limit room (expression_of limit) k note a mark ts)
+  target_longer_by note a m.Dot b c grown low le ts = target_dotted note a b c low le ts
+  target_longer_by note a m.LeftBracket b c grown low le ts = indexed note a b c low le ts
+  target_longer_by note a _ b c grown low le ts = absurd cc
+
+  -- turns and lexemes together are enough for the room
+  target_longer : (note : Bool) (n : ℕ) (a : Parsed) (b c : ℕ) → a.depth ≤ c → b ≤ c → need ≤ n + c → (ts : List Lexeme)
+      → S (Later b) c ts (spec.target_longer limit room (expression_of limit) k note n a ts)
+  unfolding spec.target_longer
+  target_longer note zero a b c low le enough ts = deep limit need {A = Parsed} (Later b) c ts (omega arith)
+  target_longer note (suc n) a b c low le enough ts =
+      choice (Later b) c (grows a.strength (mark_at note ts) 11) _ (pure a) ts
+      (λ grown. choice (Later b) c (nat_lt a.depth room) _ too_deep ts
+      (λ fits. after limit need (Flat (c + 1)) _ (Later b) c ts (spec.target_longer_by limit room (expression_of limit) k note a (mark_at note ts) ts)
+      (target_longer_by note a (mark_at note ts) (c + 1) c grown low (omega arith) ts)
+      (λ e mid c1 (flat, late). target_longer note n e b c1 flat (omega arith) (omega arith) mid))
+      (λ short. deep limit need {A = Parsed} (Later b) c ts (omega (arith, ltb-false a.depth room short))))
+      (λ ended. done limit need (Later b) c a ts le)
+
+  target_name : (note : Bool) (x : Lexeme) (b c : ℕ) → b ≤ c → 1 ≤ c → (ts : List Lexeme) → S (Flat b) c ts (spec.target_name limit room (expression_of limit) k note x ts)
+  unfolding spec.target_name
+  target_name note x b c le some ts =
+      either limit need (Flat b) c (same_mark (mark_at note ts) m.LeftParen) _ _ ts (called_under note x.span implied 0 x b c (omega arith) le ts)
+      (done limit need (Flat b) c (leaf (name x.span x.text)) ts (some, le))
+
+  target_begun : (note : Bool) (start : Start) (b c : ℕ) → b ≤ c → started start ≤ c → (ts : List Lexeme)
+      → S (Flat b) c ts (spec.target_begun limit room (expression_of limit) k note start ts)
+  target_begun note at_first b c le some ts = tt
+  target_begun note (behind_name x) b c le some ts = target_name note x b c le some ts
+  target_begun note (behind_bracket x p) b c le some ts = indexed_behind note (leaf (name x.span x.text)) p b c (omega arith) (omega arith) le ts
+
+  target_behind : (note : Bool) (start : Start) (b c : ℕ) → b ≤ c → started start ≤ c → (ts : List Lexeme)
+      → S (Later b) c ts (spec.target_behind limit room (expression_of limit) k note start ts)
+  unfolding spec.target_behind
+  target_behind note start b c le some ts =
+      after limit need (Flat c) _ (Later b) c ts (spec.target_begun limit room (expression_of limit) k note start ts) (target_begun note start c c (omega arith) some ts)
+      (λ a mid c1 (flat, late). target_longer note room a b c1 flat (omega arith) (omega arith) mid)
+
+  target_from : (note : Bool) (start : Start) (b c : ℕ) → b ≤ c → started start ≤ c → (ts : List Lexeme)
+      → S (Later b) c ts (spec.target_from limit room (expression_of limit) k note start ts)
+  target_from note start b c le some ts = roomy (Later b) c (spec.target_behind limit room (expression_of limit) k note start) ts (target_behind note start b c le some ts)
+
+  headed_target : (note : Bool) (b c : ℕ) → b ≤ c → 1 ≤ c → (ts : List Lexeme) → S (Later b) c ts (spec.headed_target limit room (expression_of limit) k note ts)
+  unfolding spec.headed_target
+  headed_target note b c le some ts =
+      after limit need (λ c' e. e.depth + c ≤ c') _ (Later b) c ts (expr note limit (room - 1) k 13 at_first ts) (inner_tree note 13 c some ts)
+      (λ a mid c1 e1. target_longer note room a b c1 (omega arith) (omega arith) (omega arith) mid)
+
+  named_target : (note : Bool) (b c : ℕ) → b ≤ c → (ts : List Lexeme) → S (Later b) c ts (spec.named_target limit room (expression_of limit) k note ts)
+  unfolding spec.named_target
+  named_target note b c le ts =
+      after_mark limit need note m.Name _ (Later b) c ts (λ x mid c1 e1. target_from note (behind_name x) b c1 (omega arith) (omega arith) mid)
+
   postfix_by : (note : Bool) (mark : Mark) (b c : ℕ) → b ≤ c → 1 ≤ c → (ts : List Lexeme) → S (Later b) c ts (spec.postfix_by limit room (expression_of limit) k note mark ts)
-  postfix_by note m.Name b c le some ts = tree note 11 at_first b c le (omega arith) ts
-  postfix_by note _ b c le some ts = headed note b c le some ts
+  postfix_by note m.Name b c le some ts = roomy (Later b) c (spec.named_target limit room (expression_of limit) k note) ts (named_target note b c le ts)
+  postfix_by note _ b c le some ts = headed_target note b c le some ts
 
   postfix : (note : Bool) (b c : ℕ) → b ≤ c → 1 ≤ c → (ts : List Lexeme) → S (Later b) c ts (spec.postfix limit room (expression_of limit) k note ts)
   unfolding spec.postfix
@@ -157,24 +268,30 @@ module _ (limit room k : ℕ) where
 
   -- ---- simple statements
 
+  act_from : (calls : Bool) (start : Start) (b c : ℕ) → b ≤ c → started start ≤ c → (ts : List Lexeme)
+      → S (Later b) c ts (spec.act_from limit room (expression_of limit) k calls start ts)
+  act_from true start b c le some ts = tree false 11 start b c le some ts
+  act_from false start b c le some ts = target_from false start b c le some ts
+
   acted_from : (calls : Bool) (start : Start) (b c : ℕ) → b ≤ c → started start ≤ c → (ts : List Lexeme)
       → S (Later b) c ts (spec.acted_from limit room (expression_of limit) k calls start ts)
   unfolding spec.acted_from
   acted_from calls start b c le some ts =
-      after limit need (Later c) _ (Later b) c ts (expr false limit room k 11 start ts) (tree false 11 start c c (omega arith) some ts) (λ a mid c1 e1. acted calls a b c1 (omega arith) mid)
+      after limit need (Later c) _ (Later b) c ts (spec.act_from limit room (expression_of limit) k calls start ts) (act_from calls start c c (omega arith) some ts) (λ a mid c1 e1.
+      acted calls a b c1 (omega arith) mid)
 
-  bracketed : (locals calls : Bool) (x : Lexeme) (b c : ℕ) → b ≤ c → 1 ≤ c → (ts : List Lexeme)
-      → S (Later b) c ts (spec.bracketed limit room (expression_of limit) k locals calls x ts)
+  bracketed : (calls : Bool) (x : Lexeme) (b c : ℕ) → b ≤ c → 1 ≤ c → (ts : List Lexeme)
+      → S (Later b) c ts (spec.bracketed limit room (expression_of limit) k calls x ts)
   unfolding spec.bracketed
-  bracketed locals calls x b c le some ts =
+  bracketed calls x b c le some ts =
       after_mark limit need false m.LeftBracket _ (Later b) c ts (λ p mid c1 e1.
-      either limit need (Later b) c1 (same_mark (mark_at false mid) m.RightBracket && locals) _ _ mid (array_local x b c1 (omega arith) mid)
+      either limit need (Later b) c1 (same_mark (mark_at false mid) m.RightBracket) _ _ mid (array_local x b c1 (omega arith) mid)
       (acted_from calls (behind_bracket x p) b c1 (omega arith) (omega arith) mid))
 
   named_by : (locals calls : Bool) (x : Lexeme) (mark : Mark) (b c : ℕ) → b ≤ c → 1 ≤ c → (ts : List Lexeme)
       → S (Later b) c ts (spec.named_by limit room (expression_of limit) k locals calls x mark ts)
   named_by true calls x m.Name b c le some ts = named_local x.span false (type_tree x.span x.text false) b c le ts
-  named_by locals calls x m.LeftBracket b c le some ts = bracketed locals calls x b c le some ts
+  named_by true calls x m.LeftBracket b c le some ts = bracketed calls x b c le some ts
   named_by locals calls x _ b c le some ts = acted_from calls (behind_name x) b c le some ts
 
   named : (locals calls : Bool) (b c : ℕ) → b ≤ c → (ts : List Lexeme) → S (Later b) c ts (spec.named limit room (expression_of limit) k locals calls ts)
@@ -182,10 +299,14 @@ module _ (limit room k : ℕ) where
   named locals calls b c le ts =
       after_mark limit need false m.Name _ (Later b) c ts (λ x mid c1 e1. named_by locals calls x (mark_at false mid) b c1 (omega arith) (omega arith) mid)
 
+  act_at_head : (calls : Bool) (b c : ℕ) → b ≤ c → 1 ≤ c → (ts : List Lexeme) → S (Later b) c ts (spec.act_at_head limit room (expression_of limit) k calls ts)
+  act_at_head true b c le some ts = headed false b c le some ts
+  act_at_head false b c le some ts = headed_target false b c le some ts
+
   headed_act : (calls : Bool) (b c : ℕ) → b ≤ c → 1 ≤ c → (ts : List Lexeme) → S (Later b) c ts (spec.headed_act limit room (expression_of limit) k calls ts)
   unfolding spec.headed_act
   headed_act calls b c le some ts =
-      after limit need (Later c) _ (Later b) c ts (spec.headed limit room (expression_of limit) k false ts) (headed false c c (omega arith) some ts) (λ a mid c1 e1.
+      after limit need (Later c) _ (Later b) c ts (spec.act_at_head limit room (expression_of limit) k calls ts) (act_at_head calls c c (omega arith) some ts) (λ a mid c1 e1.
       acted calls a b c1 (omega arith) mid)
 
   plain_by : (locals calls : Bool) (mark : Mark) (b c : ℕ) → b ≤ c → 1 ≤ c → (ts : List Lexeme)

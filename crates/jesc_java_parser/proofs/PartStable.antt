@@ -1,17 +1,18 @@
 -- A parser of the parts of a statement with more room answers the same.
-use Rattle.std.proofs.Common.{◌≡◌, ℕ, ◌-◌, ◌≤◌, Bool, true, false, ap, arith}
-use Rattle.std.specs.Prelude.{nat_lt, ◌&&◌, codes}
+use Rattle.std.proofs.Common.{◌≡◌, ℕ, zero, suc, ◌-◌, ◌≤◌, Bool, true, false, refl, ap, arith}
+use Rattle.std.specs.Prelude.{if◌then◌else◌, nat_lt, ◌&&◌, codes}
 use Rattle.jesc_text.specs.declared.place.Span.{Span}
 use Rattle.jesc_ast.specs.declared.word.TypeTree.{TypeTree}
 use Rattle.jesc_ast.specs.Lexemes.{Lexeme, join}
-use Rattle.jesc_ast.specs.Trees.{super}
-use Rattle.jesc_ast.specs.Expressions.{type_tree}
+use Rattle.jesc_ast.specs.Trees.{Receiver, implied, super, on, name, member}
+use Rattle.jesc_ast.specs.Expressions.{span_of, type_tree}
 use Rattle.jesc_ast.specs.Statements.{is_target, is_call}
 use Rattle.jesc_jml_grammar.specs.declared.mark.Mark.{Mark}
 use Rattle.jesc_jml_grammar.specs.declared.mark.Mark.TheVariants as m
 use Rattle.jesc_jml_grammar.specs.Steps.{Parser, same_mark, ◌>>=◌, pure, expect}
-use Rattle.jesc_jml_grammar.specs.Reading.{Parsed, Start, at_first, behind_name, behind_bracket}
-use Rattle.jesc_jml_grammar.specs.Refining.{Refines, refines_pure, refines_refuse, refines_peek, refines_bind, refines_if, refines_expect}
+use Rattle.jesc_jml_grammar.specs.Reading as reading
+use Rattle.jesc_jml_grammar.specs.Reading.{Parsed, Start, at_first, behind_name, behind_bracket, word_of, leaf, over, grows}
+use Rattle.jesc_jml_grammar.specs.Refining.{Refines, refines_pure, refines_refuse, refines_deep, refines_unbounded, refines_peek, refines_bind, refines_if, refines_expect}
 use Rattle.jesc_jml_parser.specs.Stable as stable
 use Rattle.jesc_jml_parser.specs.Stable.{refines_room}
 use Rattle.jesc_jml_grammar.specs.ClauseFound.{no_items, with_more}
@@ -67,13 +68,100 @@ module _ (same : Bool) (limit limit' : ℕ) (limits : limit ≤ limit') (room ro
   refines_longer note a = stable.refines_climb same note limit limit' limits (room - 1) (room' - 1) lower same_lower (less note (room - 1)) (more note (room' - 1))
       (h note (room - 1) (room' - 1) lower same_lower) k k' ks same_ks 11 room room' rooms same_rooms a
 
+  one_less : (note : Bool) (least : ℕ) → Refines same (less note (room - 1) k least at_first) (more note (room' - 1) k' least at_first)
+  one_less note least = h note (room - 1) (room' - 1) lower same_lower k k' ks same_ks least at_first
+
   refines_headed : (note : Bool) → Refines same (spec.headed limit room less k note) (spec.headed limit' room' more k' note)
   unfolding spec.headed
-  refines_headed note = chain _ _ _ _ (h note (room - 1) (room' - 1) lower same_lower k k' ks same_ks 13 at_first) (refines_longer note)
+  refines_headed note = chain _ _ _ _ (one_less note 13) (refines_longer note)
+
+  under : room - 2 ≤ room' - 2
+  under = omega arith
+
+  same_under : same ≡ true → room - 2 ≡ room' - 2
+  same_under s = ap (λ (n : ℕ). n - 2) (same_rooms s)
+
+  refines_called_under : (note : Bool) (first : Span) (r : Receiver) (depth : ℕ) (x : Lexeme)
+      → Refines same (spec.called_under limit room less k note first r depth x) (spec.called_under limit' room' more k' note first r depth x)
+  unfolding spec.called_under
+  refines_called_under note first r depth x =
+      refines_room same (nat_lt (suc depth) room) (nat_lt (suc depth) room') _ _ (grind arith) (λ e. ap (nat_lt (suc depth)) (same_rooms e))
+      (stable.refines_called same note limit limit' limits (room - 2) (room' - 2) under same_under (less note (room - 2)) (more note (room' - 2))
+      (h note (room - 2) (room' - 2) under same_under) k k' ks same_ks first r depth x)
+
+  refines_target_member : (note : Bool) (a : Parsed) (dot x : Lexeme)
+      → Refines same (spec.target_member limit room less k note a dot x) (spec.target_member limit' room' more k' note a dot x)
+  unfolding spec.target_member
+  refines_target_member note a dot x = chain _ _ _ _ (refines_peek same note) (λ mark. refines_if same (same_mark mark m.LeftParen) _ _ _ _
+      (refines_called_under note (span_of a.tree) (on a.tree dot.span) a.depth x)
+      (done (over 12 a (member (join (span_of a.tree) x.span) a.tree dot.span (word_of x)))))
+
+  refines_target_dotted : (note : Bool) (a : Parsed) → Refines same (spec.target_dotted limit room less k note a) (spec.target_dotted limit' room' more k' note a)
+  unfolding spec.target_dotted
+  refines_target_dotted note a = chain _ _ _ _ (eat note m.Dot) (λ dot. chain _ _ _ _ (eat note m.Name) (λ x. refines_target_member note a dot x))
+
+  refines_indexed_behind : (note : Bool) (a : Parsed) (p : Lexeme)
+      → Refines same (reading.indexed_behind note limit (room - 1) (less note (room - 1)) k a p) (reading.indexed_behind note limit' (room' - 1) (more note (room' - 1)) k' a p)
+  unfolding reading.indexed_behind
+  refines_indexed_behind note a p = chain _ _ _ _ (one_less note 1) (λ i. chain _ _ _ _ (eat note m.RightBracket) (λ q. done _))
+
+  refines_indexed : (note : Bool) (a : Parsed)
+      → Refines same (reading.indexed note limit (room - 1) (less note (room - 1)) k a) (reading.indexed note limit' (room' - 1) (more note (room' - 1)) k' a)
+  unfolding reading.indexed
+  refines_indexed note a = chain _ _ _ _ (eat note m.LeftBracket) (λ p. refines_indexed_behind note a p)
+
+  -- no other mark binds so tightly
+  refines_target_longer_by : (note : Bool) (a : Parsed) (mark : Mark) → grows a.strength mark 11 ≡ true
+      → Refines same (spec.target_longer_by limit room less k note a mark) (spec.target_longer_by limit' room' more k' note a mark)
+  refines_target_longer_by note a m.Dot grown = refines_target_dotted note a
+  refines_target_longer_by note a m.LeftBracket grown = refines_indexed note a
+  refines_target_longer_by note a _ grown = absurd cc
+
+  -- a choice, the first branch by what the test says
+  refines_choice : {A : Type 0} (b : Bool) (p q p' q' : Parser A) → (b ≡ true → Refines same p q) → Refines same p' q' → Refines same (if b then p else p') (if b then q else q')
+  refines_choice true p q p' q' first second = first refl
+  refines_choice false p q p' q' first second = second
+
+  refines_target_longer : (note : Bool) (n n' : ℕ) → n ≤ n' → (same ≡ true → n ≡ n') → (a : Parsed)
+      → Refines same (spec.target_longer limit room less k note n a) (spec.target_longer limit' room' more k' note n' a)
+  unfolding spec.target_longer
+  refines_target_longer note zero zero le eq a = refines_deep same
+  refines_target_longer note zero (suc n') le eq a = refines_unbounded same _ (λ e. absurd (omega (arith, eq e)))
+  refines_target_longer note (suc n) zero le eq a = absurd (omega arith)
+  refines_target_longer note (suc n) (suc n') le eq a =
+      chain _ _ _ _ (refines_peek same note) (λ mark. refines_choice (grows a.strength mark 11) _ _ _ _
+      (λ grown. refines_room same (nat_lt a.depth room) (nat_lt a.depth room') _ _ (grind arith) (λ e. ap (nat_lt a.depth) (same_rooms e))
+      (chain _ _ _ _ (refines_target_longer_by note a mark grown) (λ b. refines_target_longer note n n' (omega arith) (λ e. omega (arith, eq e)) b)))
+      (done a))
+
+  refines_target_name : (note : Bool) (x : Lexeme) → Refines same (spec.target_name limit room less k note x) (spec.target_name limit' room' more k' note x)
+  unfolding spec.target_name
+  refines_target_name note x = chain _ _ _ _ (refines_peek same note) (λ mark. refines_if same (same_mark mark m.LeftParen) _ _ _ _
+      (refines_called_under note x.span implied 0 x) (done (leaf (name x.span x.text))))
+
+  refines_target_begun : (note : Bool) (start : Start) → Refines same (spec.target_begun limit room less k note start) (spec.target_begun limit' room' more k' note start)
+  refines_target_begun note at_first = refines_refuse same
+  refines_target_begun note (behind_name x) = refines_target_name note x
+  refines_target_begun note (behind_bracket x p) = refines_indexed_behind note (leaf (name x.span x.text)) p
+
+  refines_target_behind : (note : Bool) (start : Start) → Refines same (spec.target_behind limit room less k note start) (spec.target_behind limit' room' more k' note start)
+  unfolding spec.target_behind
+  refines_target_behind note start = chain _ _ _ _ (refines_target_begun note start) (refines_target_longer note room room' rooms same_rooms)
+
+  refines_target_from : (note : Bool) (start : Start) → Refines same (spec.target_from limit room less k note start) (spec.target_from limit' room' more k' note start)
+  refines_target_from note start = refines_deeper _ _ (refines_target_behind note start)
+
+  refines_headed_target : (note : Bool) → Refines same (spec.headed_target limit room less k note) (spec.headed_target limit' room' more k' note)
+  unfolding spec.headed_target
+  refines_headed_target note = chain _ _ _ _ (one_less note 13) (refines_target_longer note room room' rooms same_rooms)
+
+  refines_named_target : (note : Bool) → Refines same (spec.named_target limit room less k note) (spec.named_target limit' room' more k' note)
+  unfolding spec.named_target
+  refines_named_target note = chain _ _ _ _ (eat note m.Name) (λ x. refines_target_from note (behind_name x))
 
   refines_postfix_by : (note : Bool) (mark : Mark) → Refines same (spec.postfix_by limit room less k note mark) (spec.postfix_by limit' room' more k' note mark)
-  refines_postfix_by note m.Name = here note 11 at_first
-  refines_postfix_by note _ = refines_headed note
+  refines_postfix_by note m.Name = refines_deeper _ _ (refines_named_target note)
+  refines_postfix_by note _ = refines_headed_target note
 
   refines_postfix : (note : Bool) → Refines same (spec.postfix limit room less k note) (spec.postfix limit' room' more k' note)
   unfolding spec.postfix
@@ -126,28 +214,36 @@ module _ (same : Bool) (limit limit' : ℕ) (limits : limit ≤ limit') (room ro
   unfolding spec.array_local
   refines_array_local x = chain _ _ _ _ (eat false m.RightBracket) (λ q. refines_named_local x.span false (type_tree (join x.span q.span) x.text true))
 
+  refines_act_from : (calls : Bool) (start : Start) → Refines same (spec.act_from limit room less k calls start) (spec.act_from limit' room' more k' calls start)
+  refines_act_from true start = here false 11 start
+  refines_act_from false start = refines_target_from false start
+
   refines_acted_from : (calls : Bool) (start : Start) → Refines same (spec.acted_from limit room less k calls start) (spec.acted_from limit' room' more k' calls start)
   unfolding spec.acted_from
-  refines_acted_from calls start = chain _ _ _ _ (here false 11 start) (refines_acted calls)
+  refines_acted_from calls start = chain _ _ _ _ (refines_act_from calls start) (refines_acted calls)
 
-  refines_bracketed : (locals calls : Bool) (x : Lexeme) → Refines same (spec.bracketed limit room less k locals calls x) (spec.bracketed limit' room' more k' locals calls x)
+  refines_bracketed : (calls : Bool) (x : Lexeme) → Refines same (spec.bracketed limit room less k calls x) (spec.bracketed limit' room' more k' calls x)
   unfolding spec.bracketed
-  refines_bracketed locals calls x = chain _ _ _ _ (eat false m.LeftBracket) (λ p. chain _ _ _ _ (refines_peek same false)
-      (λ mark. refines_if same (same_mark mark m.RightBracket && locals) _ _ _ _ (refines_array_local x) (refines_acted_from calls (behind_bracket x p))))
+  refines_bracketed calls x = chain _ _ _ _ (eat false m.LeftBracket) (λ p. chain _ _ _ _ (refines_peek same false)
+      (λ mark. refines_if same (same_mark mark m.RightBracket) _ _ _ _ (refines_array_local x) (refines_acted_from calls (behind_bracket x p))))
 
   refines_named_by : (locals calls : Bool) (x : Lexeme) (mark : Mark)
       → Refines same (spec.named_by limit room less k locals calls x mark) (spec.named_by limit' room' more k' locals calls x mark)
   refines_named_by true calls x m.Name = refines_named_local x.span false (type_tree x.span x.text false)
-  refines_named_by locals calls x m.LeftBracket = refines_bracketed locals calls x
+  refines_named_by true calls x m.LeftBracket = refines_bracketed calls x
   refines_named_by locals calls x _ = refines_acted_from calls (behind_name x)
 
   refines_named : (locals calls : Bool) → Refines same (spec.named limit room less k locals calls) (spec.named limit' room' more k' locals calls)
   unfolding spec.named
   refines_named locals calls = chain _ _ _ _ (eat false m.Name) (λ x. chain _ _ _ _ (refines_peek same false) (refines_named_by locals calls x))
 
+  refines_act_at_head : (calls : Bool) → Refines same (spec.act_at_head limit room less k calls) (spec.act_at_head limit' room' more k' calls)
+  refines_act_at_head true = refines_headed false
+  refines_act_at_head false = refines_headed_target false
+
   refines_headed_act : (calls : Bool) → Refines same (spec.headed_act limit room less k calls) (spec.headed_act limit' room' more k' calls)
   unfolding spec.headed_act
-  refines_headed_act calls = chain _ _ _ _ (refines_headed false) (refines_acted calls)
+  refines_headed_act calls = chain _ _ _ _ (refines_act_at_head calls) (refines_acted calls)
 
   refines_plain_by : (locals calls : Bool) (mark : Mark) → Refines same (spec.plain_by limit room less k locals calls mark) (spec.plain_by limit' room' more k' locals calls mark)
   refines_plain_by locals calls m.Name = refines_deeper _ _ (refines_named locals calls)

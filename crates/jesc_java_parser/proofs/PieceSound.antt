@@ -8,9 +8,7 @@ use Rattle.jesc_ast.specs.Trees.{Statement}
 use Rattle.jesc_ast.specs.Depth.{depth, nesting, of_statement}
 use Rattle.jesc_ast.specs.Statements as grammar
 use Rattle.jesc_ast.specs.Statements.{is_target, is_call, Simple, assigns, SpellsSimple, is_assignment, is_step_after, is_call_alone, may_begin_for, may_end_turn, is_loop, is_branch, is_assign_sign, is_step_sign}
-use Rattle.jesc_jml_grammar.specs.declared.mark.Mark.{Mark}
-use Rattle.jesc_jml_grammar.specs.declared.mark.Mark.TheVariants as m
-use Rattle.jesc_jml_grammar.specs.Steps.{Parser, pure, refuse, too_deep, mark_at}
+use Rattle.jesc_jml_grammar.specs.Steps.{Parser, pure, refuse, too_deep}
 use Rattle.jesc_jml_grammar.specs.Reading.{Parsed, Start, at_first}
 use Rattle.jesc_jml_parser.specs.SoundPieces.{IsSpelled, depth_some}
 use Rattle.jesc_jml_parser.specs.SoundSteps.{Gives, gives_bind, gives_if, gives_so, Taken, TakesWhole}
@@ -26,10 +24,9 @@ use Rattle.jesc_java_parser.proofs.LexingSound.{sign_that, took_if}
 
 -- ---- what is read
 
--- a target of assignments
-pub record IsTargetRead (note : Bool) (room k : ℕ) (e : Parsed) (u : List Lexeme) : Type 0 where
-  pub is : IsSpelled note room k u e
-  pub target : is_target e.tree ≡ true
+-- a tree within these bounds
+abbrev pub TakenTree : Bool → ℕ → ℕ → List Lexeme → Parsed → List Lexeme → Type 0
+TakenTree note room k = TakenAs (λ (e : Parsed) (u : List Lexeme). IsSpelled note room k u e)
 
 -- no loop and no branch
 pub record IsPlain (t : Statement) : Type 0 where
@@ -48,9 +45,13 @@ pub record IsPiece (room k : ℕ) (locals calls : Bool) (piece : Piece) (u : Lis
   pub begins : calls ≡ false → may_begin_for kind ≡ true
   pub ends : locals ≡ false → may_end_turn kind ≡ true
 
+-- with any room that it fits into
+pub fitted : (note : Bool) (room other k : ℕ) (u : List Lexeme) (e : Parsed) → IsSpelled note room k u e → e.depth ≤ other → IsSpelled note other k u e
+fitted note room other k u e h le = record { spelled = h.spelled; strong = h.strong; deep = h.deep; shallow = le; flat = h.flat }
+
 -- with more room
 pub resized : (note : Bool) (room more k : ℕ) (u : List Lexeme) (e : Parsed) → IsSpelled note room k u e → room ≤ more → IsSpelled note more k u e
-resized note room more k u e h le = record { spelled = h.spelled; strong = h.strong; deep = h.deep; shallow = omega (arith, h.shallow); flat = h.flat }
+resized note room more k u e h le = fitted note room more k u e h (omega (arith, h.shallow))
 
 module _ (limit room : ℕ) (expression : Bool → ℕ → ℕ → ℕ → Start → Parser Parsed)
     (reads : (note : Bool) (room : ℕ) → TakesWhole note room (expression note room)) (k : ℕ) where
@@ -59,39 +60,23 @@ module _ (limit room : ℕ) (expression : Bool → ℕ → ℕ → ℕ → Start
       → Gives (spec.deeper limit room expression k p ts) Q
   deeper_takes p Q ts h = gives_if (nat_lt 0 room) p too_deep Q ts (λ e. h (ltb-true 0 room e)) (λ e. tt)
 
-  pub whole_takes : (note : Bool) (ts : List Lexeme) → Gives (spec.whole limit room expression k note ts) (TakenAs (λ (e : Parsed) (u : List Lexeme). IsSpelled note room k u e) ts)
+  pub whole_takes : (note : Bool) (ts : List Lexeme) → Gives (spec.whole limit room expression k note ts) (TakenTree note room k ts)
   whole_takes note ts =
-      gives_so (Taken note room k 1 [] ts) (TakenAs (λ (e : Parsed) (u : List Lexeme). IsSpelled note room k u e) ts) (spec.whole limit room expression k note ts)
+      gives_so (Taken note room k 1 [] ts) (TakenTree note room k ts) (spec.whole limit room expression k note ts)
       (reads note room k 1 (omega arith) at_first tt ts)
       (λ e rest h. record { taken = h.taken; parts = h.parts; is = h.is })
 
-  -- ---- targets
+  -- ---- what begins otherwise than with a name
 
-  pub headed_takes : (note : Bool) (ts : List Lexeme) → Gives (spec.headed limit room expression k note ts) (TakenAs (λ (e : Parsed) (u : List Lexeme). IsSpelled note room k u e) ts)
+  pub headed_takes : (note : Bool) (ts : List Lexeme) → Gives (spec.headed limit room expression k note ts) (TakenTree note room k ts)
   unfolding spec.headed spec.longer
   headed_takes note ts =
       gives_bind _ _ (expression note (room - 1) k 13 at_first ts) (reads note (room - 1) k 13 (omega arith) at_first tt ts) (λ a mid h.
       let some : suc (room - 1) ≤ room = omega (arith, depth_some a.tree, h.is.deep, h.is.shallow) in
-      gives_so (Taken note (suc (room - 1)) k 0 [] ts) (TakenAs (λ (e : Parsed) (u : List Lexeme). IsSpelled note room k u e) ts) (spec.longer limit room expression k note a mid)
+      gives_so (Taken note (suc (room - 1)) k 0 [] ts) (TakenTree note room k ts) (spec.longer limit room expression k note a mid)
       (climb_takes note limit (room - 1) (expression note (room - 1)) (reads note (room - 1)) k 11 0 (omega arith) (omega arith) [] ts room a mid
       (record { taken = h.taken; parts = h.parts; is = resized note (room - 1) (suc (room - 1)) k h.taken a h.is (omega arith); tight = λ less. omega arith }))
       (λ e rest g. record { taken = g.taken; parts = g.parts; is = resized note (suc (room - 1)) room k g.taken e g.is some }))
-
-  postfix_by_takes : (note : Bool) (mark : Mark) (ts : List Lexeme)
-      → Gives (spec.postfix_by limit room expression k note mark ts) (TakenAs (λ (e : Parsed) (u : List Lexeme). IsSpelled note room k u e) ts)
-  postfix_by_takes note m.Name ts =
-      gives_so (Taken note room k 11 [] ts) (TakenAs (λ (e : Parsed) (u : List Lexeme). IsSpelled note room k u e) ts) (expression note room k 11 at_first ts)
-      (reads note room k 11 (omega arith) at_first tt ts)
-      (λ e rest h. record { taken = h.taken; parts = h.parts; is = h.is })
-  postfix_by_takes note _ ts = headed_takes note ts
-
-  pub target_takes : (note : Bool) (ts : List Lexeme) → Gives (spec.target limit room expression k note ts) (TakenAs (IsTargetRead note room k) ts)
-  unfolding spec.target spec.postfix
-  target_takes note ts =
-      gives_bind _ _ (spec.postfix limit room expression k note ts) (postfix_by_takes note (mark_at note ts) ts) (λ e mid h.
-      gives_if (is_target e.tree) (pure e) refuse (TakenAs (IsTargetRead note room k) ts) mid
-      (λ t. record { taken = h.taken; parts = h.parts; is = record { is = h.is; target = t } })
-      (λ t. tt))
 
   -- ---- assignments and calls
 

@@ -1,7 +1,6 @@
 -- What the rules of locals take, and those of any simple statement.
 use Rattle.std.proofs.Common.{◌≡◌, ℕ, ◌+◌, ◌-◌, Bool, true, false, List, [], ◌∷◌, ◌++◌, refl, sym, ap, append_assoc, arith}
-use Rattle.std.proofs.lemmas.Bool.{and_parts}
-use Rattle.std.specs.Prelude.{codes, ◌&&◌}
+use Rattle.std.specs.Prelude.{codes}
 use Rattle.jesc_text.specs.declared.place.Span.{Span}
 use Rattle.jesc_ast.specs.declared.word.TypeTree.{TypeTree}
 use Rattle.jesc_ast.specs.Lexemes.{Lexeme, sign, join}
@@ -16,7 +15,7 @@ use Rattle.jesc_jml_grammar.specs.Reading.{Parsed, Start, at_first, behind_name,
 use Rattle.jesc_jml_parser.specs.SoundMarks.{marked}
 use Rattle.jesc_jml_parser.specs.SoundLexemes.{typed}
 use Rattle.jesc_jml_parser.specs.SoundPieces.{plain_type, array_type}
-use Rattle.jesc_jml_parser.specs.SoundSteps.{Gives, gives_bind, gives_if, took, start_lexemes, IsStart, TakesWhole}
+use Rattle.jesc_jml_parser.specs.SoundSteps.{Gives, gives_bind, gives_if, gives_so, took, start_lexemes, IsStart, Taken, TakesWhole}
 use Rattle.jesc_jml_parser.specs.SoundCalls.{type_takes}
 use Rattle.jesc_jml_parser.specs.ClauseSoundLists.{TakenAs}
 use Rattle.jesc_java_grammar.specs.declared.statement_mark.StatementMark.{StatementMark}
@@ -26,7 +25,8 @@ use Rattle.jesc_java_grammar.specs.StatementMarks.{statement_mark_at, is_step}
 use Rattle.jesc_java_grammar.specs.StatementReading as spec
 use Rattle.jesc_java_grammar.specs.StatementReading.{Piece}
 use Rattle.jesc_java_parser.proofs.LexingSound.{sign_that, took_if, took_this_word, took_this_sign}
-use Rattle.jesc_java_parser.proofs.PieceSound.{IsPiece, deeper_takes, whole_takes, headed_takes, target_takes, acted_takes}
+use Rattle.jesc_java_parser.proofs.PieceSound.{TakenTree, IsPiece, deeper_takes, whole_takes, headed_takes, acted_takes}
+use Rattle.jesc_java_parser.proofs.TargetSound.{target_from_takes, headed_target_takes, target_takes}
 
 -- these lexemes are what stands before the name of a local
 abbrev Declares : Span → Bool → TypeTree → List Lexeme → Type 0
@@ -115,36 +115,37 @@ module _ (limit room : ℕ) (expression : Bool → ℕ → ℕ → ℕ → Start
 
   -- ---- what begins with an expression
 
+  act_from_takes : (calls : Bool) (start : Start) → IsStart false start → (all ts : List Lexeme) → all ≡ start_lexemes start ++ ts
+      → Gives (spec.act_from limit room expression k calls start ts) (TakenTree false room k all)
+  act_from_takes true start known all ts parts =
+      gives_so (Taken false room k 11 (start_lexemes start) ts) (TakenTree false room k all) (expression false room k 11 start ts)
+      (reads false room k 11 (omega arith) start known ts)
+      (λ a mid h. record { taken = start_lexemes start ++ h.taken; parts = rw (parts, h.parts) (sym (append_assoc (start_lexemes start) h.taken mid)); is = h.is })
+  act_from_takes false start known all ts parts = target_from_takes limit room expression reads k false start known all ts parts
+
   acted_from_takes : (locals calls : Bool) (start : Start) → IsStart false start → (all ts : List Lexeme) → all ≡ start_lexemes start ++ ts
       → Gives (spec.acted_from limit room expression k calls start ts) (TakenAs (IsPiece room k locals calls) all)
   unfolding spec.acted_from
   acted_from_takes locals calls start known all ts parts =
-      gives_bind _ _ (expression false room k 11 start ts) (reads false room k 11 (omega arith) start known ts) (λ a mid h.
-      acted_takes limit room expression reads k locals calls a (start_lexemes start ++ h.taken) h.is all mid
-      (rw (parts, h.parts) (sym (append_assoc (start_lexemes start) h.taken mid))))
+      gives_bind _ _ (spec.act_from limit room expression k calls start ts) (act_from_takes calls start known all ts parts) (λ a mid h.
+      acted_takes limit room expression reads k locals calls a h.taken h.is all mid h.parts)
 
-  bracketed_takes : (locals calls : Bool) (x : Lexeme) → lexeme_mark false x ≡ m.Name → (all ts : List Lexeme) → all ≡ x ∷ ts
-      → Gives (spec.bracketed limit room expression k locals calls x ts) (TakenAs (IsPiece room k locals calls) all)
+  bracketed_takes : (calls : Bool) (x : Lexeme) → lexeme_mark false x ≡ m.Name → (all ts : List Lexeme) → all ≡ x ∷ ts
+      → Gives (spec.bracketed limit room expression k calls x ts) (TakenAs (IsPiece room k true calls) all)
   unfolding spec.bracketed
-  bracketed_takes true calls x named all ts parts =
+  bracketed_takes calls x named all ts parts =
       gives_bind _ _ (expect false m.LeftBracket ts) (took false m.LeftBracket ts) (λ p mid left.
-      gives_if (same_mark (mark_at false mid) m.RightBracket && true) (spec.array_local limit room expression k x) _ (TakenAs (IsPiece room k true calls) all) mid
+      gives_if (same_mark (mark_at false mid) m.RightBracket) (spec.array_local limit room expression k x) _ (TakenAs (IsPiece room k true calls) all) mid
       (λ e. array_local_takes calls x p named left.mark all mid (rw (parts, left.at) refl))
       (λ e. acted_from_takes true calls (behind_bracket x p) (named, left.mark) all mid (rw (parts, left.at) refl)))
-  bracketed_takes false calls x named all ts parts =
-      gives_bind _ _ (expect false m.LeftBracket ts) (took false m.LeftBracket ts) (λ p mid left.
-      gives_if (same_mark (mark_at false mid) m.RightBracket && false) (spec.array_local limit room expression k x) _ (TakenAs (IsPiece room k false calls) all) mid
-      (λ e. let both = and_parts (same_mark (mark_at false mid) m.RightBracket) false e in absurd cc)
-      (λ e. acted_from_takes false calls (behind_bracket x p) (named, left.mark) all mid (rw (parts, left.at) refl)))
 
   named_by_takes : (locals calls : Bool) (x : Lexeme) → lexeme_mark false x ≡ m.Name → (mark : Mark) (all ts : List Lexeme) → all ≡ x ∷ ts
       → Gives (spec.named_by limit room expression k locals calls x mark ts) (TakenAs (IsPiece room k locals calls) all)
   named_by_takes true calls x named m.Name all ts parts =
       let t = type_tree x.span x.text false in
       named_local_takes calls x.span false t (x ∷ []) (declares_plain t (x ∷ []) (plain_type false x (typed false m.Name refl x named))) all ts parts
-  named_by_takes true calls x named m.LeftBracket all ts parts = bracketed_takes true calls x named all ts parts
+  named_by_takes true calls x named m.LeftBracket all ts parts = bracketed_takes calls x named all ts parts
   named_by_takes true calls x named _ all ts parts = acted_from_takes true calls (behind_name x) named all ts parts
-  named_by_takes false calls x named m.LeftBracket all ts parts = bracketed_takes false calls x named all ts parts
   named_by_takes false calls x named _ all ts parts = acted_from_takes false calls (behind_name x) named all ts parts
 
   named_takes : (locals calls : Bool) (ts : List Lexeme) → Gives (spec.named limit room expression k locals calls ts) (TakenAs (IsPiece room k locals calls) ts)
@@ -152,10 +153,14 @@ module _ (limit room : ℕ) (expression : Bool → ℕ → ℕ → ℕ → Start
   named_takes locals calls ts =
       gives_bind _ _ (expect false m.Name ts) (took false m.Name ts) (λ x mid named. named_by_takes locals calls x named.mark (mark_at false mid) ts mid named.at)
 
+  act_at_head_takes : (calls : Bool) (ts : List Lexeme) → Gives (spec.act_at_head limit room expression k calls ts) (TakenTree false room k ts)
+  act_at_head_takes true ts = headed_takes limit room expression reads k false ts
+  act_at_head_takes false ts = headed_target_takes limit room expression reads k false ts
+
   headed_act_takes : (locals calls : Bool) (ts : List Lexeme) → Gives (spec.headed_act limit room expression k calls ts) (TakenAs (IsPiece room k locals calls) ts)
   unfolding spec.headed_act
   headed_act_takes locals calls ts =
-      gives_bind _ _ (spec.headed limit room expression k false ts) (headed_takes limit room expression reads k false ts) (λ a mid h.
+      gives_bind _ _ (spec.act_at_head limit room expression k calls ts) (act_at_head_takes calls ts) (λ a mid h.
       acted_takes limit room expression reads k locals calls a h.taken h.is ts mid h.parts)
 
   -- ---- any simple statement

@@ -16,7 +16,8 @@ use Rattle.jesc_java_grammar.specs.Lexing.{is_sign, is_word, take_if}
 use Rattle.jesc_java_grammar.specs.StatementReading as spec
 use Rattle.jesc_java_grammar.specs.StatementReading.{GhostHead}
 use Rattle.jesc_java_parser.proofs.LexingSound.{took_this_word, took_this_sign}
-use Rattle.jesc_java_parser.proofs.PieceSound.{whole_takes, target_takes}
+use Rattle.jesc_java_parser.proofs.PieceSound.{whole_takes}
+use Rattle.jesc_java_parser.proofs.TargetSound.{target_takes}
 use Rattle.jesc_java_parser.proofs.PartSound.{IsPlainRead, optional_value_takes}
 
 -- the word, the type, the name and the equals sign of a ghost local

@@ -60,6 +60,10 @@ fn with_lines(alloc: Global, text: &[u8], unit: Unit) -> Result<File, OutOfMemor
 /// where no file goes on with it, and `Deep` (S3) where all that do break one of the two limits. Expressions,
 /// parentheses and statements in a member may nest up to 200 nodes from the member to a leaf, and up to three
 /// quantifiers on the way. Answers `OutOfMemory` where there is no room for the tree.
+///
+/// A file is a compilation unit (JLS 7.3) of the classes, interfaces, members and statements (JLS 8, 9 and 14) that the
+/// language has, with its annotations (the JML Reference Manual's chapters on specifications of types, methods and
+/// statements).
 pub fn parse_file(alloc: Global, tokens: &Tokens) -> Result<File, SyntaxError>
     requires spans { AreSpans (length tokens.now.text) 0 tokens.now.list }
     requires short { length tokens.now.text ≤ 1048576 }

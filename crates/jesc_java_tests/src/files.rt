@@ -317,6 +317,17 @@ fn past_the_limit(rt: HostRuntime) {
     for refused in DEEP {
         expect_in_blocks(&rt, rt.alloc(), "deep", false, refused);
     }
+}
+
+#[test]
+fn targets_past_the_limit(rt: HostRuntime) {
+    for refused in DEEP_TARGETS {
+        expect_in_blocks(&rt, rt.alloc(), "deep", false, refused);
+    }
+}
+
+#[test]
+fn in_no_body(rt: HostRuntime) {
     for refused in INNER_TOKENS {
         expect_in_blocks(&rt, rt.alloc(), "token ", true, refused);
     }

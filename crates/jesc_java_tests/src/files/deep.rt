@@ -20,7 +20,7 @@ pub const SHALLOW: [Tower; 9] = [
 pub type Inner = (usize, &'static str);
 
 /// Statements that are within the limit there, but not in one block more.
-pub const INNER: [Inner; 41] = [
+pub const INNER: [Inner; 63] = [
     (199, ";"),
     (199, "{ }"),
     (199, "return;"),
@@ -62,6 +62,28 @@ pub const INNER: [Inner; 41] = [
     (196, "(a).x = 1;"),
     (196, "(a).f();"),
     (195, "while (a) f(-b);"),
+    (197, "++f().x;"),
+    (196, "++f(a).x;"),
+    (196, "++x.f().y;"),
+    (197, "++x[0];"),
+    (196, "++x[-1];"),
+    (196, "++f().x[-1];"),
+    (197, "--super.f().x;"),
+    (196, "for (f().x = 1; ; ) ;"),
+    (195, "for (f(a).x = 1; ; ) ;"),
+    (195, "for (x.f()[0] = 1; ; ) ;"),
+    (195, "for (f().g().x = 1; ; ) ;"),
+    (196, "for (x[0] = 1; ; ) ;"),
+    (195, "for (x[0][1] = 1; ; ) ;"),
+    (195, "for (x[-1] = 1; ; ) ;"),
+    (195, "for (this.x.y = 1; ; ) ;"),
+    (197, "for (A[] x = b; ; ) ;"),
+    (196, "for (; ; x[0]++) ;"),
+    (196, "for (; ; f(a)) ;"),
+    (197, "//@ set f().x = 1;\n"),
+    (196, "//@ set x.f().y = 1;\n"),
+    (197, "//@ set \\result.x = 1;\n"),
+    (196, "//@ set \\old(a).x = 1;\n"),
 ];
 
 /// So many blocks, what stands before a token in the innermost one, the token, and what stands behind it.
@@ -125,6 +147,38 @@ pub const DEEP: [Refused; 56] = [
     (198, "//@ assert a ", "==>", " b;\n"),
     (198, "//@ set g = ", "(", "1);\n"),
     (197, "", "(", "a).x = 1;"),
+];
+
+/// Tokens in a target that go on with too deep a body alone.
+pub const DEEP_TARGETS: [Refused; 27] = [
+    (197, "for (; ; x", "[", "0]++) ;"),
+    (196, "for (; ; x[0]", "[", "1]++) ;"),
+    (197, "for (x[", "0", "] = 1; ; ) ;"),
+    // A call in a target has a node above it.
+    (197, "for (f", "(", ").x = 1; ; ) ;"),
+    (196, "for (f(", "a", ").x = 1; ; ) ;"),
+    (195, "for (f(", "-", "a).x = 1; ; ) ;"),
+    (195, "for (f(a).x", "[", "0] = 1; ; ) ;"),
+    (196, "for (x.f", "(", ").x = 1; ; ) ;"),
+    (195, "for (x.f(", "-", "a).x = 1; ; ) ;"),
+    (195, "for (x[0].f", "(", ").x = 1; ; ) ;"),
+    (196, "for (f().g", "(", ").x = 1; ; ) ;"),
+    (196, "for (f().x", ".", "y = 1; ; ) ;"),
+    (196, "for (this.f", "(", ").x = 1; ; ) ;"),
+    (195, "for ((a).f", "(", ").x = 1; ; ) ;"),
+    (197, "for (", "super", ".f().x = 1; ; ) ;"),
+    (198, "++f", "(", ").x;"),
+    (197, "++f(", "a", ").x;"),
+    (197, "++x.f", "(", ").y;"),
+    (198, "++", "this", ".x;"),
+    (197, "++this.f", "(", ").x;"),
+    (197, "--", "(", "a).x;"),
+    (197, "for (; ; ++f", "(", ").x) ;"),
+    (198, "//@ set f", "(", ").x = 1;\n"),
+    (197, "//@ set x.f", "(", ").y = 1;\n"),
+    (198, "//@ set x", "[", "0] = 1;\n"),
+    (198, "//@ set ", "super", ".f().x = 1;\n"),
+    (197, "//@ set ", "\\old", "(a).x = 1;\n"),
 ];
 
 /// Tokens that go on with no body there, however deep.
