@@ -1,44 +1,66 @@
 -- Names of a specification, and the heading behind it.
-use Rattle.std.proofs.Common.{◌≡◌, ℕ, Bool, true, false, ◌&&◌, not, if◌then◌else◌, List, [], ◌∷◌, ◌++◌, suc, refl, sym, ap, ◌∙◌, arith, append_assoc, Option, Some, None, All, Contains, Result, Ok, Err, IfOk, IfSome}
+use Rattle.std.proofs.Common.{◌≡◌, ℕ, Bool, true, false, ◌&&◌, not, if◌then◌else◌, List, [], ◌∷◌, ◌++◌, suc, refl, sym, ap, ◌∙◌, arith, append_assoc, Option, Some, None, All, Contains, Result, Ok, Err, IfOk, IfSome, subst}
 use Rattle.std.specs.Option.{is_some}
 use Rattle.std.proofs.lemmas.List.Elements.{All-nil, All-cons, All-push}
 use Rattle.jesc_lexer.specs.declared.token.TokenKind.TheVariants.{Word}
 use Rattle.jesc_ast.specs.Lexemes.{Lexeme}
 use Rattle.jesc_first.specs.declared.reader.cursor.Cursor.{Cursor}
+use Rattle.jesc_first.specs.declared.reader.phase.Phase.{Phase}
+use Rattle.jesc_first.specs.declared.reader.phase.Phase.TheVariants.{Methods}
 use Rattle.jesc_first.specs.Seen.{seen}
-use Rattle.jesc_first.specs.Parsing.{Texts, same_kind, slot_in, behind_notes}
+use Rattle.jesc_first.specs.Parsing.{Texts, same_kind, is_name_text, slot_in, behind_notes}
+use Rattle.jesc_first.specs.Recognizing.{State, is_before_part, step}
+use Rattle.jesc_first.specs.Recognized.{Steps}
 use Rattle.jesc_first.specs.Fronts.{HasHeading, IsBehindNotes, IsStrange, IsForeignPlace}
-use Rattle.jesc_first.proofs.SoundBase.{and_left, and_right, same_kind_is}
-use Rattle.jesc_first.proofs.SoundSums.{slot_missing}
+use Rattle.jesc_first.proofs.SoundBase.{all_three, same_kind_is}
+use Rattle.jesc_first.proofs.SoundSums.{name_is, slot_missing}
+use Rattle.jesc_first.proofs.InClauses.{IsTaken, before_any, taken_more, before_part}
 
 abbrev Noted : Lexeme → Type 0
 Noted x = x.note ≡ true
 
-pub behind_none : (ts place : List Lexeme) → place ≡ ts → IsBehindNotes ts place
-behind_none ts place e = record { front = []; split = sym e; noted = All-nil Noted }
+-- the recognizer has taken the lexemes of annotations up to the place, and stands at the phase
+pub record IsReadTo (tokens place : List Lexeme) (phase : Phase) : Type 0 where
+  pub behind : IsBehindNotes tokens place
+  pub taken : IsTaken behind.front phase
 
-pub behind_more : (ts place : List Lexeme) (x : Lexeme) (rest : List Lexeme) → IsBehindNotes ts place → place ≡ x ∷ rest → x.note ≡ true → IsBehindNotes ts rest
-behind_more ts place x rest b e n = record {
-  front = b.front ++ x ∷ [];
-  split = b.split ∙ ap (λ (xs : List Lexeme). b.front ++ xs) e ∙ sym (append_assoc b.front (x ∷ []) rest);
-  noted = All-push Noted b.front x b.noted n;
-}
+pub read_none : (ts place : List Lexeme) (phase : Phase) → place ≡ ts → phase ≡ Methods → IsReadTo ts place phase
+read_none ts place phase e p =
+    record { behind = record { front = []; split = sym e; noted = All-nil Noted }; taken = subst (IsTaken []) (sym p) before_any }
+
+pub read_more : (ts place : List Lexeme) (s : State) (x : Lexeme) (rest : List Lexeme) (goes : Bool) (new : State)
+    → IsReadTo ts place s.phase → place ≡ x ∷ rest → x.note ≡ true → Steps (step s x) goes new → goes ≡ true → IsReadTo ts rest new.phase
+read_more ts place s x rest goes new r e n steps went =
+    let b = r.behind in
+    record {
+      behind = record {
+        front = b.front ++ x ∷ [];
+        split = b.split ∙ ap (λ (xs : List Lexeme). b.front ++ xs) e ∙ sym (append_assoc b.front (x ∷ []) rest);
+        noted = All-push Noted b.front x b.noted n;
+      };
+      taken = taken_more b.front s x goes new r.taken n steps went;
+    }
 
 no_slot : (names : Texts) (text : List ℕ) (found : Option ℕ) → slot_in names text ≡ found → not (is_some found) ≡ true → ¬ (Contains names text)
 no_slot names text None e h c = slot_missing names text e c
 no_slot names text (Some slot) e h c = absurd (cc)
 
-pub strange_here : (ts : List Lexeme) (names : Texts) (place : List Lexeme) (x : Lexeme) (rest : List Lexeme) → IsBehindNotes ts place → place ≡ x ∷ rest → x.note ≡ true
-    → (same_kind x.kind Word && not (is_some (slot_in names x.text))) ≡ true → IsStrange ts names place
-strange_here ts names place x rest b e n h = record {
-  behind = b;
-  name = x;
-  rest = rest;
-  first = e;
-  is_word = same_kind_is x.kind Word (and_left (same_kind x.kind Word) (not (is_some (slot_in names x.text))) h);
-  is_noted = n;
-  strange = no_slot names x.text (slot_in names x.text) refl (and_right (same_kind x.kind Word) (not (is_some (slot_in names x.text))) h);
-}
+pub strange_here : (ts : List Lexeme) (names : Texts) (place : List Lexeme) (phase : Phase) (x : Lexeme) (rest : List Lexeme) → IsReadTo ts place phase → place ≡ x ∷ rest → x.note ≡ true
+    → is_before_part phase ≡ true → (same_kind x.kind Word && is_name_text x.text && not (is_some (slot_in names x.text))) ≡ true → IsStrange ts names place
+strange_here ts names place phase x rest r e n p h =
+    let three = all_three (same_kind x.kind Word) (is_name_text x.text) (not (is_some (slot_in names x.text))) h in
+    let word : x.kind ≡ Word = same_kind_is x.kind Word three.0 in
+    record {
+      behind = r.behind;
+      name = x;
+      rest = rest;
+      first = e;
+      is_word = word;
+      is_noted = n;
+      named = name_is x.text three.1;
+      placed = before_part r.behind.front x phase r.taken p word n;
+      strange = no_slot names x.text (slot_in names x.text) refl three.2;
+    }
 
 -- ---- what stands behind a specification
 
@@ -73,6 +95,8 @@ foreign_is ts names place h s =
         rest = h.rest;
         parts = s.first ∙ ap (λ (xs : List Lexeme). s.name ∷ xs) tail;
         is_word = s.is_word;
+        named = s.named;
+        placed = s.placed;
         noted = All-cons Noted s.name clauses.0 s.is_noted clauses.2;
         result = h.result;
         method = h.method;

@@ -18,6 +18,8 @@ mod CompleteClass
 mod Whole
 mod Spanned
 mod Headings
+mod Beginnings
+mod InClauses
 mod Foreign
 mod Places
 mod RunBase

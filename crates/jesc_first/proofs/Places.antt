@@ -4,6 +4,7 @@ use Rattle.jesc_ast.specs.Lexemes.{Lexeme}
 use Rattle.jesc_first.specs.Parsing.{Texts}
 use Rattle.jesc_first.specs.Recognizing.{State, start, step, run_on, run}
 use Rattle.jesc_first.specs.Recognized.{Steps}
+use Rattle.jesc_first.specs.Outside.{IsForeign}
 use Rattle.jesc_first.specs.Fronts.{IsForeignPlace, IsReached, Stops, IsPlace}
 
 -- one run after another
@@ -46,9 +47,37 @@ place_stops before ts place s x rest false new r e steps goes = record {
 pub place_ends : (before : Texts) (ts place : List Lexeme) (s : State) → IsReached before ts place s → place ≡ [] → IsPlace before ts place
 place_ends before ts place s r e = record { front = r.front; split = r.split; cause = inl (subst (Stops before r.front) (sym e) tt) }
 
+-- with more lexemes before it
+foreign_behind : (more before behind : List Lexeme) → IsForeign before behind → IsForeign (more ++ before) behind
+foreign_behind more before behind f = record {
+  name = f.name;
+  clauses = f.clauses;
+  heading = f.heading;
+  rest = f.rest;
+  parts = f.parts;
+  is_word = f.is_word;
+  named = f.named;
+  placed = record {
+    front = more ++ f.placed.front;
+    opener = f.placed.opener;
+    inside = f.placed.inside;
+    parts = ap (λ (xs : List Lexeme). more ++ xs) f.placed.parts ∙ sym (append_assoc more f.placed.front (f.placed.opener ∷ f.placed.inside));
+    opens = f.placed.opens;
+    scope = f.placed.scope;
+    condition = f.placed.condition;
+    begins = f.placed.begins;
+  };
+  noted = f.noted;
+  result = f.result;
+  method = f.method;
+  parameters = f.parameters;
+  matched = f.matched;
+  foreign = f.foreign;
+}
+
 pub place_foreign : (before : Texts) (ts place : List Lexeme) (s : State) (foreign : List Lexeme) → IsReached before ts place s → IsForeignPlace place foreign → IsPlace before ts foreign
 place_foreign before ts place s foreign r f = record {
   front = r.front ++ f.front;
   split = r.split ∙ ap (λ (xs : List Lexeme). r.front ++ xs) f.split ∙ sym (append_assoc r.front f.front foreign);
-  cause = inr f.foreign;
+  cause = inr (foreign_behind r.front f.front foreign f.foreign);
 }

@@ -79,7 +79,7 @@ pub and_right : (a b : Bool) → (a && b) ≡ true → b ≡ true
 and_right true b h = h
 and_right false b h = absurd (cc)
 
-all_three : (a b c : Bool) → (a && b && c) ≡ true → (a ≡ true) × (b ≡ true) × (c ≡ true)
+pub all_three : (a b c : Bool) → (a && b && c) ≡ true → (a ≡ true) × (b ≡ true) × (c ≡ true)
 all_three true true c h = (refl, refl, h)
 all_three true false c h = absurd (cc)
 all_three false b c h = absurd (cc)
@@ -127,16 +127,21 @@ pub record IsNext (kind : TokenKind) (note : Bool) (text : List ℕ) (tokens : L
   pub loosely : Taken tokens (loose kind note text ∷ []) rest
   pub firmly : Taken tokens (firm kind note text at ∷ []) rest
 
+-- the test of a token
+pub token_fits : (kind : TokenKind) (note : Bool) (text : List ℕ) (token : Lexeme) → is_token kind note text token ≡ true → Fits token (loose kind note text)
+token_fits kind note text token h =
+    let three = all_three (same_kind token.kind kind) (same_side token.note note) (bytes_eq token.text text) h in
+    record { kind = same_kind_is token.kind kind three.0; text = (bytes_eq-Decides token.text text).0 three.2; note = same_side_is token.note note three.1; at = tt }
+
+pub token_fits_at : (kind : TokenKind) (note : Bool) (text : List ℕ) (token : Lexeme) → is_token kind note text token ≡ true → Fits token (firm kind note text token.span.from)
+token_fits_at kind note text token h = let f = token_fits kind note text token h in record { kind = f.kind; text = f.text; note = f.note; at = refl }
+
 -- the test of the next token
 pub token_is : (kind : TokenKind) (note : Bool) (text : List ℕ) (token : Lexeme) (rest : List Lexeme) → is_token kind note text token ≡ true → IsNext kind note text (token ∷ rest) token.span.from rest
-token_is kind note text token rest h =
-    let k : token.kind ≡ kind = same_kind_is token.kind kind (all_three (same_kind token.kind kind) (same_side token.note note) (bytes_eq token.text text) h).0 in
-    let n : token.note ≡ note = same_side_is token.note note (all_three (same_kind token.kind kind) (same_side token.note note) (bytes_eq token.text text) h).1 in
-    let t : token.text ≡ text = (bytes_eq-Decides token.text text).0 (all_three (same_kind token.kind kind) (same_side token.note note) (bytes_eq token.text text) h).2 in
-    record {
-      loosely = taken_one token rest (loose kind note text) (record { kind = k; text = t; note = n; at = tt });
-      firmly = taken_one token rest (firm kind note text token.span.from) (record { kind = k; text = t; note = n; at = refl });
-    }
+token_is kind note text token rest h = record {
+  loosely = taken_one token rest (loose kind note text) (token_fits kind note text token h);
+  firmly = taken_one token rest (firm kind note text token.span.from) (token_fits_at kind note text token h);
+}
 
 -- an expected token
 pub expected_sound : (kind : TokenKind) (note : Bool) (text : List ℕ) (tokens : List Lexeme) → Gives (expected kind note text tokens) (IsNext kind note text tokens)

@@ -35,6 +35,11 @@ name_text_is [] h r = absurd (cc)
 name_text_is (b ∷ bytes) h r =
     (and_left (is_letter b) (list_all is_word_byte bytes) h, AllPass-from_list_all is_word_byte bytes (and_right (is_letter b) (list_all is_word_byte bytes) h), r)
 
+pub name_is : (text : List ℕ) → is_name_text text ≡ true → IsName text
+name_is text h =
+    name_text_is text (and_left (is_word_text text) (not (is_reserved text)) h)
+    (not_true (is_reserved text) (and_right (is_word_text text) (not (is_reserved text)) h))
+
 -- a plain word fits the piece of its text
 pub plain_taken : (token : Lexeme) (rest : List Lexeme) → is_plain token ≡ true → Taken (token ∷ rest) (word false token.text ∷ []) rest
 plain_taken token rest h =
@@ -52,11 +57,9 @@ pub record NameTaken (tokens : List Lexeme) (text : List ℕ) (rest : List Lexem
 pub name_sound : (tokens : List Lexeme) → Gives (name_in tokens) (NameTaken tokens)
 name_sound [] = gives_none (NameTaken [])
 name_sound (token ∷ rest) = gives_if (is_plain token && is_name_text token.text) token.text rest (NameTaken (token ∷ rest)) (λ h.
-    let n : (is_word_text token.text && not (is_reserved token.text)) ≡ true = and_right (is_plain token) (is_name_text token.text) h in
     record {
       taken = plain_taken token rest (and_left (is_plain token) (is_name_text token.text) h);
-      valid = name_text_is token.text (and_left (is_word_text token.text) (not (is_reserved token.text)) n)
-          (not_true (is_reserved token.text) (and_right (is_word_text token.text) (not (is_reserved token.text)) n));
+      valid = name_is token.text (and_right (is_plain token) (is_name_text token.text) h);
     })
 
 -- ---- slots

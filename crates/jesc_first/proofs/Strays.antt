@@ -15,6 +15,10 @@ drop_front : (a x : List Lexeme) → drop (length a) (a ++ x) ≡ x
 drop_front [] x = refl
 drop_front (t ∷ a) x = drop_front a x
 
+take_all : (a x : List Lexeme) → take (length a) (a ++ x) ≡ a
+take_all [] x = refl
+take_all (t ∷ a) x = ap (λ (ts : List Lexeme). t ∷ ts) (take_all a x)
+
 take_front : (a : List Lexeme) (x : Lexeme) (xs : List Lexeme) (n : ℕ) → n ≡ length a + 1 → take n (a ++ x ∷ xs) ≡ a ++ x ∷ []
 take_front a x xs zero e = absurd (omega arith)
 take_front [] x xs (suc n) e = let z : n ≡ 0 = omega arith in ap (λ (m : ℕ). x ∷ take m xs) z
@@ -46,23 +50,12 @@ stopped_at before front x rest none stops = record {
   end = λ e classes. no_file before (front ++ x ∷ rest) none classes;
 }
 
-foreign_at : (front place : List Lexeme) → IsForeign place 0 → IsForeign (front ++ place) (length front)
-foreign_at front place f = record {
-  name = f.name;
-  clauses = f.clauses;
-  heading = f.heading;
-  rest = f.rest;
-  parts = drop_front front place ∙ f.parts;
-  is_word = f.is_word;
-  noted = f.noted;
-  result = f.result;
-  method = f.method;
-  parameters = f.parameters;
-  matched = f.matched;
-  foreign = f.foreign;
-}
+foreign_at : (front place : List Lexeme) → IsForeign front place → IsForeign (take (length front) (front ++ place)) (drop (length front) (front ++ place))
+foreign_at front place f =
+    subst (λ (before : List Lexeme). IsForeign before (drop (length front) (front ++ place))) (sym (take_all front place))
+    (subst (IsForeign front) (sym (drop_front front place)) f)
 
-by_cause : (before : Texts) (front place : List Lexeme) → parsed before (front ++ place) ≡ None → Stops before front place ⊎ IsForeign place 0 → Strays before (front ++ place) (length front)
+by_cause : (before : Texts) (front place : List Lexeme) → parsed before (front ++ place) ≡ None → Stops before front place ⊎ IsForeign front place → Strays before (front ++ place) (length front)
 by_cause before front [] none (inl stops) =
     let same : length (front ++ []) ≡ length front = ap length (append-nil front) in
     record {

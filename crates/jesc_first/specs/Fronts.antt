@@ -4,7 +4,8 @@ use Rattle.jesc_lexer.specs.declared.token.TokenKind.TheVariants.{Word}
 use Rattle.jesc_ast.specs.Lexemes.{Lexeme}
 use Rattle.jesc_first.specs.Spelling.{Piece, Match, word, sign, parameter_pieces, heading_pieces}
 use Rattle.jesc_first.specs.Parsing.{Texts}
-use Rattle.jesc_first.specs.Outside.{IsForeign}
+use Rattle.jesc_first.specs.Names.{IsName}
+use Rattle.jesc_first.specs.Outside.{IsInCondition, IsForeign}
 use Rattle.jesc_first.specs.Recognizing.{State, start, run}
 
 -- the lexemes begin with ones that fit the pieces, and the rest comes after those
@@ -60,7 +61,7 @@ pub record IsBehindNotes (tokens place : List Lexeme) : Type 0 where
   pub split : tokens ≡ front ++ place
   pub noted : All (λ x. x.note ≡ true) front
 
--- it is a name in an annotation, behind others of its lexemes, that isn't among the names
+-- it is a name in a clause, behind lexemes of annotations, that isn't among the names
 pub record IsStrange (tokens : List Lexeme) (names : Texts) (place : List Lexeme) : Type 0 where
   pub behind : IsBehindNotes tokens place
   pub name : Lexeme
@@ -68,13 +69,15 @@ pub record IsStrange (tokens : List Lexeme) (names : Texts) (place : List Lexeme
   pub first : place ≡ name ∷ rest
   pub is_word : name.kind ≡ Word
   pub is_noted : name.note ≡ true
+  pub named : IsName name.text
+  pub placed : IsInCondition behind.front name
   pub strange : ¬ (Contains names name.text)
 
 -- it is a name in a specification that names no parameter
 pub record IsForeignPlace (tokens place : List Lexeme) : Type 0 where
   pub front : List Lexeme
   pub split : tokens ≡ front ++ place
-  pub foreign : IsForeign place 0
+  pub foreign : IsForeign front place
 
 -- the recognizer stops with the lexeme at the place, or the lexemes end there
 abbrev pub Stops : Texts → List Lexeme → List Lexeme → Type 0
@@ -91,4 +94,4 @@ pub record IsReached (before : Texts) (tokens place : List Lexeme) (state : Stat
 pub record IsPlace (before : Texts) (tokens place : List Lexeme) : Type 0 where
   pub front : List Lexeme
   pub split : tokens ≡ front ++ place
-  pub cause : Stops before front place ⊎ IsForeign place 0
+  pub cause : Stops before front place ⊎ IsForeign front place

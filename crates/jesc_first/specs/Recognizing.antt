@@ -26,6 +26,11 @@ pub record State : Type 0 where
 abbrev pub start : Texts → State
 start before = record { phase = Classes; classes = before; methods = []; scope = []; returns = false; told = false }
 
+-- whether a part of a sum comes next
+abbrev pub is_before_part : Phase → Bool
+is_before_part (Part seat) = true
+is_before_part other = false
+
 -- ---- tests of a lexeme
 
 abbrev pub is_word : Bool → List ℕ → Lexeme → Bool

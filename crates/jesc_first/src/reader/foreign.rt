@@ -4,7 +4,7 @@
 
 ghost use Rattle.std.specs.Prelude.{◌≡◌, ◌<◌, ◌&&◌, not, IfOk, IfSome, OnOk, length};
 ghost use Rattle.jesc_first.specs.Fronts.{Opens, Furthers, Lists, HasHeading, IsStrange, IsForeignPlace};
-ghost use Rattle.jesc_first.specs.Parsing.{any_parameter_in, same_kind, slot_in};
+ghost use Rattle.jesc_first.specs.Parsing.{any_parameter_in, same_kind, is_name_text, slot_in};
 ghost use Rattle.std.specs.Option.{is_some};
 ghost use Rattle.jesc_lexer.specs.declared.token.TokenKind.TheVariants.{Word};
 ghost use Rattle.jesc_first.specs.Reads.{ReadsText};
@@ -16,6 +16,7 @@ use crate::reader::lexeme::{Lexeme, is_of_kind};
 use crate::reader::names::Names;
 use crate::reader::phase::Phase;
 use crate::reader::recognizer::Recognizer;
+use crate::reader::reserved::is_name;
 use jesc_lexer::TokenKind;
 use jesc_text::OutOfMemory;
 use std::alloc::Global;
@@ -76,9 +77,12 @@ fn parameters_of<'a>(alloc: Global, cursor: &mut Cursor<'a>) -> Result<Names<'a>
 
 /// Whether it is a name that is not among the names.
 fn is_strange(found: &Lexeme<'_>, names: &Names<'_>) -> bool
-    ensures { result ≡ (same_kind found.now.kind Word && not (is_some (slot_in names.now (lexeme found.now).text))) }
+    ensures { result ≡ (same_kind found.now.kind Word && is_name_text (lexeme found.now).text && not (is_some (slot_in names.now (lexeme found.now).text))) }
 {
-    is_of_kind(found, TokenKind::Word) && names.slot_of(found.text).is_none()
+    if !is_of_kind(found, TokenKind::Word) || !is_name(found.text) {
+        return false;
+    }
+    names.slot_of(found.text).is_none()
 }
 
 /// The first part of a sum in the specification at the cursor that is a name and not among the names.

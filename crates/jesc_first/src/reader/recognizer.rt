@@ -53,7 +53,9 @@ impl<'a> Recognizer<'a> {
     }
 
     /// Whether a part of a sum comes next.
-    pub fn is_before_part(&self) -> bool {
+    pub fn is_before_part(&self) -> bool
+        ensures { result ≡ spec.is_before_part self.now.phase }
+    {
         matches!(self.phase, Phase::Part(_))
     }
 

@@ -1,7 +1,7 @@
 use crate::texts::Want;
 
 /// Texts of classes with one or two methods.
-pub const METHODS: [(&str, Want); 74] = [
+pub const METHODS: [(&str, Want); 76] = [
     (
         "class A {\n//@ requires y < 1;\nstatic void f(int x) { }\n}",
         Want::Token(23, 24),
@@ -37,6 +37,14 @@ pub const METHODS: [(&str, Want); 74] = [
     (
         "class A {\n//@ requires class < 1;\nstatic void f(int x) { }\n}",
         Want::Token(23, 28),
+    ),
+    (
+        "class A {\n//@ requires x < 1; ensures true < y;\nstatic void f(int x) { }\n}",
+        Want::Token(38, 42),
+    ),
+    (
+        "class A {\n//@ requires requires < y;\nstatic void f(int x) { }\n}",
+        Want::Token(23, 31),
     ),
     (
         "class A {\n//@ requires x < 2147483648;\nstatic void f(int x) { }\n}",
