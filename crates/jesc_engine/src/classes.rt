@@ -34,7 +34,7 @@ fn nth(tokens: &[Token], at: u32) -> Option<Token>
     tokens.get(at as usize).copied()
 }
 
-/// The same of a text, in which the token lies.
+/// The token of this number, which lies in the text.
 fn token_at(tokens: &Tokens, at: u32) -> Option<Token>
     requires { AreSpans (length tokens.now.text) 0 tokens.now.list }
     ensures token { result ≡ slice_get tokens.now.list at }
