@@ -189,9 +189,9 @@ pub record IsSpecWithinLimits (t : Specification) : Type 0 where
   pub shallow : of_cases depth 1 t.cases ≤ 200
   pub flat : of_cases nesting 0 t.cases ≤ 3
 
-pub record IsMemberWithinLimits (m : MemberForm) : Type 0 where
-  pub shallow : of_member depth 1 m ≤ 200
-  pub flat : of_member nesting 0 m ≤ 3
+pub record IsMemberWithinLimits (m : Member) : Type 0 where
+  pub shallow : of_member depth 1 m.form ≤ 200
+  pub flat : of_member nesting 0 m.form ≤ 3
 
 pub record IsFileWithinLimits (f : SourceUnit) : Type 0 where
   pub shallow : of_classes depth 1 f.classes ≤ 200

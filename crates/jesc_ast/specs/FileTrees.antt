@@ -28,12 +28,12 @@ optional_body_view (Some b) = Some (body_view b)
 
 abbrev pub member_form : MemberNode → MemberForm
 member_form members.Empty = no_member
-member_form (members.Field ws ty w equals value groups) = field ws ty w equals (optional_view value) groups
-member_form (members.SpecField ws ty w equals value groups) = spec_field ws ty w equals (optional_view value) groups
-member_form (members.Invariant ws e) = class_invariant ws (view e)
-member_form (members.Represents visibility w op e) = represents visibility w op (view e)
-member_form (members.Method spec ws result w params throws b) = method (optional_spec_view spec) ws result w params throws (optional_body_view b)
-member_form (members.Constructor spec ws w params throws b) = constructor_member (optional_spec_view spec) ws w params throws (body_view b)
+member_form (members.Field f) = field f.modifiers f.ty f.name f.equals (optional_view f.value) f.groups
+member_form (members.SpecField f) = spec_field f.modifiers f.ty f.name f.equals (optional_view f.value) f.groups
+member_form (members.Invariant i) = class_invariant i.modifiers (view i.e)
+member_form (members.Represents r) = represents r.visibility r.name r.sign (view r.e)
+member_form (members.Method m) = method (optional_spec_view m.spec) m.modifiers m.result m.name m.params m.throws (optional_body_view m.body)
+member_form (members.Constructor c) = constructor_member (optional_spec_view c.spec) c.modifiers c.name c.params c.throws (body_view c.body)
 
 pub record Member : Type 0 where
   pub span : Span

@@ -11,3 +11,4 @@ pub mod Members
 pub mod Depth
 pub mod Spelled
 pub mod LeftOut
+pub mod laws

@@ -11,7 +11,7 @@ use Rattle.jesc_ast.specs.Lexemes.{Lexeme, lexemes, word, sign, chosen_word, cho
 use Rattle.jesc_ast.specs.Words.{is_one_of, is_name}
 use Rattle.jesc_ast.specs.Trees.{Expression, Body}
 use Rattle.jesc_ast.specs.SpecTrees.{Specification}
-use Rattle.jesc_ast.specs.FileTrees.{MemberForm, no_member, field, spec_field, class_invariant, represents, method, constructor_member, Member, member_of, Class, class_of, file_view}
+use Rattle.jesc_ast.specs.FileTrees.{MemberForm, no_member, field, spec_field, class_invariant, represents, method, constructor_member, Member, member_of, Class, class_of, SourceUnit, file_view}
 use Rattle.jesc_ast.specs.Expressions.{SpellsType, SpellsExpression}
 use Rattle.jesc_ast.specs.Statements.{SpellsBody, SpellsConstructorBody}
 use Rattle.jesc_ast.specs.Specifications.{SpellsNames, SpellsSpec, SpellsVisibility, is_visibility}
@@ -183,11 +183,15 @@ pub data SpellsPackage : List Word → List Lexeme → Type 0 where
   some_package : (s p : Span) (ws : List Word) (u : List Lexeme) → SpellsDotted ws u
       → SpellsPackage ws (word false "package" s ∷ (u ++ sign false ";" p ∷ []))
 
--- The tokens spell the file. Its lines are those of the text.
-pub record SpellsFile (tokens : Tokens) (file : File) : Type 0 where
+-- The lexemes spell the unit, first its package and then its classes.
+pub record SpellsUnit (t : SourceUnit) (ts : List Lexeme) : Type 0 where
   pub package_part : List Lexeme
   pub class_part : List Lexeme
-  pub whole : lexemes tokens ≡ package_part ++ class_part
-  pub package_spelled : SpellsPackage (file_view file).in_package package_part
-  pub classes_spelled : SpellsClasses (file_view file).classes class_part
+  pub whole : ts ≡ package_part ++ class_part
+  pub package_spelled : SpellsPackage t.in_package package_part
+  pub classes_spelled : SpellsClasses t.classes class_part
+
+-- The tokens spell what the file holds. Its lines are those of the text.
+pub record SpellsFile (tokens : Tokens) (file : File) : Type 0 where
+  pub unit : SpellsUnit (file_view file) (lexemes tokens)
   pub lines : file.lines ≡ lines_of tokens.text

@@ -34,8 +34,8 @@ store_form stores.Nothing = nothing
 store_form stores.Everything = everything
 store_form (stores.Path e) = path (view e)
 store_form (stores.Star e) = star (view e)
-store_form (stores.Elem e i) = element (view e) (view i)
-store_form (stores.Range e first last) = range (view e) (view first) (view last)
+store_form (stores.Elem t) = element (view t.array) (view t.index)
+store_form (stores.Range t) = range (view t.array) (view t.first) (view t.last)
 store_form (stores.AllElems e) = all_elements (view e)
 
 abbrev pub store_view : StoreTree → Store
@@ -53,7 +53,7 @@ pub data Promise : Type 0 where
 abbrev pub promise_view : SpecClause → Promise
 promise_view (clauses.Ensures c) = promises (clause_view c)
 promise_view (clauses.Assignable w ts) = assigns w (map store_view ts)
-promise_view (clauses.Signals w p class n e) = signals w p class n (optional_view e)
+promise_view (clauses.Signals c) = signals c.word c.bracket c.class c.name (optional_view c.e)
 promise_view (clauses.SignalsOnly s ws) = signals_only s ws
 
 pub record Case : Type 0 where

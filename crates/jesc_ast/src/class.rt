@@ -4,7 +4,7 @@ use crate::expr::Expr;
 use crate::spec::SpecTree;
 use crate::stmt::BodyTree;
 use crate::word::{TypeTree, Word};
-use jesc_text::{List, Span};
+use jesc_text::{Boxed, List, Span};
 
 /// A parameter of a method or constructor.
 #[derive(Debug, Drop)]
@@ -18,59 +18,71 @@ pub struct ParamTree {
 #[derive(Debug, Drop)]
 pub struct MemberTree {
     pub span: Span,
-    pub node: MemberNode,
+    pub node: Boxed<MemberNode>,
 }
 
-/// The forms of a member. A list that is not written is empty.
+/// The forms of a member.
 #[derive(Debug, Drop)]
 pub enum MemberNode {
     /// A lone semicolon.
     Empty,
-    Field {
-        modifiers: List<Word>,
-        ty: TypeTree,
-        name: Word,
-        equals: Option<Span>,
-        value: Option<Expr>,
-        groups: List<Word>,
-    },
+    Field(Boxed<FieldTree>),
     /// A ghost or model field, with the word `ghost` or `model` in its place among the modifiers.
-    SpecField {
-        modifiers: List<Word>,
-        ty: TypeTree,
-        name: Word,
-        equals: Option<Span>,
-        value: Option<Expr>,
-        groups: List<Word>,
-    },
-    Invariant {
-        modifiers: List<Word>,
-        e: Expr,
-    },
-    Represents {
-        visibility: Option<Word>,
-        name: Word,
-        sign: Word,
-        e: Expr,
-    },
-    /// A method; `void` is no result, and a semicolon in place of the body no body.
-    Method {
-        spec: Option<SpecTree>,
-        modifiers: List<Word>,
-        result: Option<TypeTree>,
-        name: Word,
-        params: List<ParamTree>,
-        throws: List<Word>,
-        body: Option<BodyTree>,
-    },
-    Constructor {
-        spec: Option<SpecTree>,
-        modifiers: List<Word>,
-        name: Word,
-        params: List<ParamTree>,
-        throws: List<Word>,
-        body: BodyTree,
-    },
+    SpecField(Boxed<FieldTree>),
+    Invariant(Boxed<InvariantTree>),
+    Represents(Boxed<RepresentsTree>),
+    Method(Boxed<MethodTree>),
+    Constructor(Boxed<ConstructorTree>),
+}
+
+/// A field. A list that is not written is empty.
+#[derive(Debug, Drop)]
+pub struct FieldTree {
+    pub modifiers: List<Word>,
+    pub ty: TypeTree,
+    pub name: Word,
+    pub equals: Option<Span>,
+    pub value: Option<Expr>,
+    pub groups: List<Word>,
+}
+
+/// `invariant e;`.
+#[derive(Debug, Drop)]
+pub struct InvariantTree {
+    pub modifiers: List<Word>,
+    pub e: Expr,
+}
+
+/// `represents name sign e;`.
+#[derive(Debug, Drop)]
+pub struct RepresentsTree {
+    pub visibility: Option<Word>,
+    pub name: Word,
+    pub sign: Word,
+    pub e: Expr,
+}
+
+/// A method; `void` is no result, and a semicolon in place of the body no body. A list that is not written is empty.
+#[derive(Debug, Drop)]
+pub struct MethodTree {
+    pub spec: Option<SpecTree>,
+    pub modifiers: List<Word>,
+    pub result: Option<TypeTree>,
+    pub name: Word,
+    pub params: List<ParamTree>,
+    pub throws: List<Word>,
+    pub body: Option<BodyTree>,
+}
+
+/// A constructor. A list that is not written is empty.
+#[derive(Debug, Drop)]
+pub struct ConstructorTree {
+    pub spec: Option<SpecTree>,
+    pub modifiers: List<Word>,
+    pub name: Word,
+    pub params: List<ParamTree>,
+    pub throws: List<Word>,
+    pub body: BodyTree,
 }
 
 /// A class, or an interface where `is_interface` is set.

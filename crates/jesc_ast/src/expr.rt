@@ -6,21 +6,13 @@ use jesc_text::{Boxed, List, Span, Text};
 #[derive(Debug, Drop)]
 pub struct Expr {
     pub span: Span,
-    pub node: ExprNode,
-}
-
-/// What a called method's name stands after.
-#[cycle(expr)]
-#[derive(Debug, Drop)]
-pub enum Receiver {
-    /// Nothing: a method of the class itself.
-    Implied,
-    /// `super` and a dot.
-    Super,
-    On { base: Boxed<Expr>, dot: Span },
+    pub node: Boxed<ExprNode>,
 }
 
 /// The forms of an expression.
+///
+/// Forms of one part lie in the node. Those of several parts are boxed, so that a name or a number, which most nodes
+/// are, takes little room.
 #[cycle(expr)]
 #[derive(Debug, Drop)]
 pub enum ExprNode {
@@ -31,71 +23,132 @@ pub enum ExprNode {
     /// `\result`.
     Result,
     Name(Text),
-    Paren(Boxed<Expr>),
-    Member {
-        base: Boxed<Expr>,
-        dot: Span,
-        name: Word,
-    },
-    Index {
-        base: Boxed<Expr>,
-        bracket: Span,
-        index: Boxed<Expr>,
-    },
-    /// `-`, `+` or `!` before an operand.
-    Unary {
-        op: Word,
-        e: Boxed<Expr>,
-    },
-    Binary {
-        op: Word,
-        left: Boxed<Expr>,
-        right: Boxed<Expr>,
-    },
-    /// `test ? yes : no`.
-    Choose {
-        test: Boxed<Expr>,
-        question: Span,
-        yes: Boxed<Expr>,
-        no: Boxed<Expr>,
-    },
-    Cast {
-        ty: TypeTree,
-        e: Boxed<Expr>,
-    },
-    InstanceOf {
-        e: Boxed<Expr>,
-        ty: TypeTree,
-    },
-    Call {
-        receiver: Receiver,
-        name: Word,
-        args: List<Expr>,
-    },
-    /// `new C(..)`.
-    New {
-        name: Word,
-        args: List<Expr>,
-    },
-    /// `new T[size]`.
-    NewArray {
-        base: Word,
-        size: Boxed<Expr>,
-    },
+    Paren(Expr),
+    Member(Boxed<MemberAccess>),
+    Index(Boxed<ArrayAccess>),
+    Unary(Boxed<UnaryExpr>),
+    Binary(Boxed<BinaryExpr>),
+    Choose(Boxed<Conditional>),
+    Cast(Boxed<CastExpr>),
+    InstanceOf(Boxed<InstanceTest>),
+    Call(Boxed<MethodCall>),
+    New(Boxed<ObjectCreation>),
+    NewArray(Boxed<ArrayCreation>),
     /// `\old(..)`.
-    Old(Boxed<Expr>),
+    Old(Expr),
     /// `\fresh(..)`.
-    Fresh(Boxed<Expr>),
-    /// `(\forall int x; low < x && x < high; body)`, or `\exists` where `universal` is not set.
-    ///
-    /// `low_strict` and `high_strict` tell that a bound is written with `<`, and else with `<=`.
-    Quant {
-        universal: bool,
-        variable: Word,
-        low: Boxed<Expr>,
-        low_strict: bool,
-        high: Boxed<Expr>,
-        high_strict: bool,
-        body: Boxed<Expr>,
-    },
+    Fresh(Expr),
+    Quant(Boxed<Quantifier>),
+}
+
+/// `base.name`.
+#[cycle(expr)]
+#[derive(Debug, Drop)]
+pub struct MemberAccess {
+    pub base: Expr,
+    pub dot: Span,
+    pub name: Word,
+}
+
+/// `base[index]`.
+#[cycle(expr)]
+#[derive(Debug, Drop)]
+pub struct ArrayAccess {
+    pub base: Expr,
+    pub bracket: Span,
+    pub index: Expr,
+}
+
+/// `-`, `+` or `!` before an operand.
+#[cycle(expr)]
+#[derive(Debug, Drop)]
+pub struct UnaryExpr {
+    pub op: Word,
+    pub e: Expr,
+}
+
+/// `left op right`.
+#[cycle(expr)]
+#[derive(Debug, Drop)]
+pub struct BinaryExpr {
+    pub op: Word,
+    pub left: Expr,
+    pub right: Expr,
+}
+
+/// `test ? yes : no`.
+#[cycle(expr)]
+#[derive(Debug, Drop)]
+pub struct Conditional {
+    pub test: Expr,
+    pub question: Span,
+    pub yes: Expr,
+    pub no: Expr,
+}
+
+/// `(ty) e`.
+#[cycle(expr)]
+#[derive(Debug, Drop)]
+pub struct CastExpr {
+    pub ty: TypeTree,
+    pub e: Expr,
+}
+
+/// `e instanceof ty`.
+#[cycle(expr)]
+#[derive(Debug, Drop)]
+pub struct InstanceTest {
+    pub e: Expr,
+    pub ty: TypeTree,
+}
+
+/// What a called method's name stands after.
+#[cycle(expr)]
+#[derive(Debug, Drop)]
+pub enum Receiver {
+    /// Nothing: a method of the class itself.
+    Implied,
+    /// `super` and a dot.
+    Super,
+    On { base: Expr, dot: Span },
+}
+
+/// `name(..)`, behind its receiver.
+#[cycle(expr)]
+#[derive(Debug, Drop)]
+pub struct MethodCall {
+    pub receiver: Receiver,
+    pub name: Word,
+    pub args: List<Expr>,
+}
+
+/// `new name(..)`.
+#[cycle(expr)]
+#[derive(Debug, Drop)]
+pub struct ObjectCreation {
+    pub name: Word,
+    pub args: List<Expr>,
+}
+
+/// `new base[size]`.
+#[cycle(expr)]
+#[derive(Debug, Drop)]
+pub struct ArrayCreation {
+    pub base: Word,
+    pub size: Expr,
+}
+
+/// `(\forall int x; low < x && x < high; body)`, or `\exists` where `universal` is not set.
+///
+/// `low_strict` and `high_strict` tell that a bound is written with `<`, and else with `<=`.
+#[cycle(expr)]
+#[derive(Debug, Drop)]
+pub struct Quantifier {
+    pub universal: bool,
+    pub variable: Word,
+    pub low: Expr,
+    pub low_strict: bool,
+    pub high: Expr,
+    pub high_strict: bool,
+    pub body: Expr,
 }

@@ -1,13 +1,13 @@
 use crate::expr::Expr;
 use crate::stmt::ClauseTree;
 use crate::word::Word;
-use jesc_text::{List, Span};
+use jesc_text::{Boxed, List, Span};
 
 /// A store reference of an `assignable` clause.
 #[derive(Debug, Drop)]
 pub struct StoreTree {
     pub span: Span,
-    pub node: StoreNode,
+    pub node: Boxed<StoreNode>,
 }
 
 /// The forms of a store reference.
@@ -21,34 +21,45 @@ pub enum StoreNode {
     Path(Expr),
     /// `path.*`.
     Star(Expr),
-    /// `path[index]`.
-    Elem(Expr, Expr),
-    /// `path[first..last]`.
-    Range(Expr, Expr, Expr),
+    Elem(Boxed<ElementStore>),
+    Range(Boxed<RangeStore>),
     /// `path[*]`.
     AllElems(Expr),
+}
+
+/// `array[index]`.
+#[derive(Debug, Drop)]
+pub struct ElementStore {
+    pub array: Expr,
+    pub index: Expr,
+}
+
+/// `array[first..last]`.
+#[derive(Debug, Drop)]
+pub struct RangeStore {
+    pub array: Expr,
+    pub first: Expr,
+    pub last: Expr,
 }
 
 /// A clause of a case, its `requires` clauses aside.
 #[derive(Debug, Drop)]
 pub enum SpecClause {
     Ensures(ClauseTree),
-    Assignable {
-        word: Word,
-        stores: List<StoreTree>,
-    },
-    Signals {
-        word: Word,
-        bracket: Span,
-        class: Word,
-        name: Option<Word>,
-        e: Option<Expr>,
-    },
+    Assignable { word: Word, stores: List<StoreTree> },
+    Signals(Boxed<SignalsTree>),
     /// `first` is the first token after `signals_only`.
-    SignalsOnly {
-        first: Span,
-        classes: List<Word>,
-    },
+    SignalsOnly { first: Span, classes: List<Word> },
+}
+
+/// `signals (class name) e;`, where the name and the expression may be missing.
+#[derive(Debug, Drop)]
+pub struct SignalsTree {
+    pub word: Word,
+    pub bracket: Span,
+    pub class: Word,
+    pub name: Option<Word>,
+    pub e: Option<Expr>,
 }
 
 /// A case of a method's specification; `demands` are its `requires` clauses.

@@ -32,68 +32,104 @@ pub struct CatchTree {
 #[derive(Debug, Drop)]
 pub struct Stmt {
     pub span: Span,
-    pub node: StmtNode,
+    pub node: Boxed<StmtNode>,
 }
 
 /// The forms of a statement.
+///
+/// Those of several parts are boxed, so that a lone semicolon takes little room.
 #[cycle(stmt)]
 #[derive(Debug, Drop)]
 pub enum StmtNode {
-    Block(BodyTree),
-    Local {
-        is_final: bool,
-        ty: TypeTree,
-        name: Word,
-        equals: Span,
-        value: Expr,
-    },
-    /// A ghost local.
-    Ghost {
-        ty: TypeTree,
-        name: Word,
-        equals: Span,
-        value: Expr,
-    },
-    /// With `++` or `--` there is no value, and `before` tells that the sign stands in front.
-    Assign {
-        target: Expr,
-        op: Word,
-        before: bool,
-        value: Option<Expr>,
-    },
+    Block(Boxed<BodyTree>),
+    Local(Boxed<LocalTree>),
+    Ghost(Boxed<GhostTree>),
+    Assign(Boxed<AssignTree>),
     Call(Expr),
-    If {
-        test: Expr,
-        then: Boxed<Stmt>,
-        other: Option<Boxed<Stmt>>,
-    },
-    While {
-        invariants: List<ClauseTree>,
-        test: Expr,
-        body: Boxed<Stmt>,
-    },
-    For {
-        invariants: List<ClauseTree>,
-        first: Option<Boxed<Stmt>>,
-        test: Option<Expr>,
-        last: Option<Boxed<Stmt>>,
-        body: Boxed<Stmt>,
-    },
+    If(Boxed<IfTree>),
+    While(Boxed<WhileTree>),
+    For(Boxed<ForTree>),
     Return(Option<Expr>),
     Throw(Expr),
-    Try {
-        body: BodyTree,
-        catches: List<CatchTree>,
-    },
+    Try(Boxed<TryTree>),
     Break,
     Continue,
     Empty,
     Assert(Expr),
-    Set {
-        target: Expr,
-        equals: Span,
-        value: Expr,
-    },
+    Set(Boxed<SetTree>),
     /// `super(..);`, which is the first statement of its body.
     Super(List<Expr>),
+}
+
+/// A local variable with its initial value.
+#[derive(Debug, Drop)]
+pub struct LocalTree {
+    pub is_final: bool,
+    pub ty: TypeTree,
+    pub name: Word,
+    pub equals: Span,
+    pub value: Expr,
+}
+
+/// A ghost local.
+#[derive(Debug, Drop)]
+pub struct GhostTree {
+    pub ty: TypeTree,
+    pub name: Word,
+    pub equals: Span,
+    pub value: Expr,
+}
+
+/// An assignment; with `++` or `--` there is no value, and `before` tells that the sign stands in front.
+#[derive(Debug, Drop)]
+pub struct AssignTree {
+    pub target: Expr,
+    pub op: Word,
+    pub before: bool,
+    pub value: Option<Expr>,
+}
+
+/// `if (test) then else other`.
+#[cycle(stmt)]
+#[derive(Debug, Drop)]
+pub struct IfTree {
+    pub test: Expr,
+    pub then: Stmt,
+    pub other: Option<Stmt>,
+}
+
+/// `while (test) body`, behind its invariants.
+#[cycle(stmt)]
+#[derive(Debug, Drop)]
+pub struct WhileTree {
+    pub invariants: List<ClauseTree>,
+    pub test: Expr,
+    pub body: Stmt,
+}
+
+/// `for (first; test; last) body`, behind its invariants.
+#[cycle(stmt)]
+#[derive(Debug, Drop)]
+pub struct ForTree {
+    pub invariants: List<ClauseTree>,
+    pub first: Option<Stmt>,
+    pub test: Option<Expr>,
+    pub last: Option<Stmt>,
+    pub body: Stmt,
+}
+
+/// `try { .. }` with its `catch` clauses.
+#[cycle(stmt)]
+#[derive(Debug, Drop)]
+pub struct TryTree {
+    pub body: BodyTree,
+    pub catches: List<CatchTree>,
+}
+
+/// `set target = value;`.
+#[derive(Debug, Drop)]
+pub struct SetTree {
+    pub target: Expr,
+    pub equals: Span,
+    pub value: Expr,
 }

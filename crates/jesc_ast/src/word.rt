@@ -6,15 +6,15 @@ use jesc_text::{Span, Text};
 #[derive(Debug, Drop)]
 pub struct Word {
     pub text: Text,
+    pub span: Span,
     /// Whether the token stands in an annotation.
     pub note: bool,
-    pub span: Span,
 }
 
 /// A type as it is written: a base name, with brackets where `array` is set.
 #[derive(Debug, Drop)]
 pub struct TypeTree {
-    pub span: Span,
     pub base: Text,
+    pub span: Span,
     pub array: bool,
 }

@@ -17,7 +17,8 @@ use Rattle.jesc_lexer.specs.declared.token.Token.{Token}
 use Rattle.jesc_lexer.specs.declared.token.TokenKind.{TokenKind}
 use Rattle.jesc_lexer.specs.declared.piece.CodePiece.{CodePiece}
 use Rattle.jesc_lexer.specs.declared.piece.CodePiece.TheVariants.{Plain, Annotation}
-use Rattle.jesc_lexer.specs.Texts.{IsWordText, IsBackslashText, IsNumberText, AreDigits, IsOneOf, IsTokenText, IsTextOf, AreTexts, StandsAt}
+use Rattle.jesc_lexer.specs.Inner.{IsTextOf, StandsAt}
+use Rattle.jesc_lexer.specs.Texts.{IsWordText, IsBackslashText, IsNumberText, AreDigits, IsOneOf, IsTokenText, AreTexts}
 use Rattle.jesc_lexer.specs.declared.token.TokenKind.TheVariants.{Word, Backslash, Number, Sign}
 use Rattle.jesc_lexer.specs.declared.piece.Piece.{Piece}
 use Rattle.jesc_lexer.specs.declared.piece.Piece.TheVariants.{Blank, Lexeme, Bad}
@@ -28,7 +29,7 @@ pub either_text : (note : Bool) (rest : List ℕ) (b : Bool) (x y : Piece) → (
 either_text note rest true x y first second = first refl
 either_text note rest false x y first second = second refl
 
-all_prefix : (p : ℕ → Bool) (xs : List ℕ) → list_all p (take (prefix_len p xs) xs) ≡ true
+pub all_prefix : (p : ℕ → Bool) (xs : List ℕ) → list_all p (take (prefix_len p xs) xs) ≡ true
 all_prefix p [] = refl
 all_prefix p (x ∷ xs) = by_first (p x) refl (all_prefix p xs)
   where
@@ -52,7 +53,7 @@ begins_take p zero xs first some = absurd (omega arith)
 begins_take p (suc k) [] first some = absurd (cc)
 begins_take p (suc k) (x ∷ xs) first some = first
 
-word_text : (rest : List ℕ) → IsUtf8 rest → begins is_word_start (chars rest) ≡ true → IsWordText (take (word_len rest) rest)
+pub word_text : (rest : List ℕ) → IsUtf8 rest → begins is_word_start (chars rest) ≡ true → IsWordText (take (word_len rest) rest)
 unfolding word_len
 word_text rest utf8 start =
     let cs = chars rest in
@@ -68,7 +69,7 @@ word_text rest utf8 start =
       goes = all_prefix is_word_part cs;
     }
 
-backslash_text : (rest : List ℕ) → 0 < backslash_part_len rest → IsBackslashText (take (1 + backslash_part_len rest) rest)
+pub backslash_text : (rest : List ℕ) → 0 < backslash_part_len rest → IsBackslashText (take (1 + backslash_part_len rest) rest)
 backslash_text [] some = absurd (omega arith)
 backslash_text (b ∷ rest) some = by_first (is_backslash b) refl some
   where
@@ -123,11 +124,11 @@ digits_form rest digit = by_zero (starts_with nat_eq rest (codes "0")) refl
 low_is : (limit value : ℕ) → nat_lt limit value ≡ false → value ≤ limit
 low_is limit value h = grind (arith, nat_tests)
 
-second : (a b : Bool) → (a || b) ≡ false → b ≡ false
+pub second : (a b : Bool) → (a || b) ≡ false → b ≡ false
 second true b h = absurd (cc)
 second false b h = h
 
-number_text : (rest : List ℕ) → begins is_ascii_digit rest ≡ true → is_bad_number rest ≡ false → IsNumberText (take (number_len rest) rest)
+pub number_text : (rest : List ℕ) → begins is_ascii_digit rest ≡ true → is_bad_number rest ≡ false → IsNumberText (take (number_len rest) rest)
 number_text rest digit good = by_suffix (has_suffix rest) refl (low_is (number_limit rest) (digits_value_of (take (digits_len rest) rest)) (second (begins is_xid_continue (chars (drop (number_len rest) rest))) (nat_lt (number_limit rest) (digits_value_of (take (digits_len rest) rest))) good))
   where
     by_suffix : (v : Bool) → has_suffix rest ≡ v → digits_value_of (take (digits_len rest) rest) ≤ cond v 9223372036854775808 2147483648 → IsNumberText (take (cond v (digits_len rest + 1) (digits_len rest)) rest)
@@ -143,7 +144,7 @@ number_text rest digit good = by_suffix (has_suffix rest) refl (low_is (number_l
           bounded = (here.1, low);
         }
 
-fit_text : (texts : List (List ℕ)) (rest : List ℕ) → 0 < first_fit texts rest → IsOneOf texts (take (first_fit texts rest) rest)
+pub fit_text : (texts : List (List ℕ)) (rest : List ℕ) → 0 < first_fit texts rest → IsOneOf texts (take (first_fit texts rest) rest)
 fit_text [] rest some = absurd (omega arith)
 fit_text (sign ∷ texts) rest some = by_fit (starts_with nat_eq rest sign) refl some (fit_text texts rest)
   where
@@ -151,7 +152,7 @@ fit_text (sign ∷ texts) rest some = by_fit (starts_with nat_eq rest sign) refl
     by_fit true fit some later = inl (ap (take (length sign)) (fits rest sign fit) ∙ take-append_seam sign (drop (length sign) rest))
     by_fit false fit some later = inr (later some)
 
-one_more : (xs ys : List (List ℕ)) (sign text : List ℕ) → IsOneOf (xs ++ ys) text → IsOneOf (xs ++ sign ∷ ys) text
+pub one_more : (xs ys : List (List ℕ)) (sign text : List ℕ) → IsOneOf (xs ++ ys) text → IsOneOf (xs ++ sign ∷ ys) text
 one_more [] ys sign text one = inr one
 one_more (x ∷ xs) ys sign text (inl same) = inl same
 one_more (x ∷ xs) ys sign text (inr other) = inr (one_more xs ys sign text other)

@@ -4,8 +4,16 @@ pub mod Escapes
 pub mod Represents
 pub mod KindTexts
 pub mod Readings
+pub mod Refused
 pub mod Signs
 pub mod Steps
 pub mod Unique
 pub mod Values
 pub mod Words
+pub mod Walks
+pub mod Fronts
+pub mod Longest
+pub mod Shapes
+pub mod LongestWalks
+pub mod Parts
+pub mod ElementWalks

@@ -12,11 +12,12 @@ use Rattle.jesc_lexer.specs.declared.piece.CodePiece.TheVariants.{Annotation}
 use Rattle.jesc_lexer.specs.declared.piece.Refusal.{Refusal}
 use Rattle.jesc_lexer.specs.declared.piece.Stop.{Stop}
 use Rattle.jesc_lexer.specs.declared.piece.Stop.TheVariants.{Refused, OutOfMemory}
-use Rattle.jesc_lexer.specs.Texts.{IsTokenText, StandsAt}
+use Rattle.jesc_lexer.specs.Inner.{StandsAt, AreBefore, Ends, IsStep, end_of, Continues, Reads, StopsBy, fits_at}
+use Rattle.jesc_lexer.specs.Texts.{IsTokenText}
 use Rattle.jesc_lexer.proofs.KindTexts.{texts_more, text_is}
-use Rattle.jesc_lexer.specs.Spans.{AreSpans, AreBefore, Ends, IsStep, end_of}
+use Rattle.jesc_lexer.specs.Spans.{AreSpans}
 use Rattle.jesc_lexer.specs.Pieces.{note_piece, code_piece}
-use Rattle.jesc_lexer.specs.Reading.{token, after_represents, behind, behind_code, note_tokens, code_tokens, and_then, Continues, Reads, StopsBy, fits_at}
+use Rattle.jesc_lexer.specs.Reading.{token, after_represents, behind, behind_code, note_tokens, code_tokens, and_then}
 
 -- the bytes of a piece that is read already are passed over
 note_skips : (text : List ℕ) (file : ℕ) (block : Bool) (bytes : List ℕ) (within at : ℕ) (tokens : List Token)

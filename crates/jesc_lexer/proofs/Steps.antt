@@ -1,5 +1,5 @@
 -- Each piece has at least one byte, and ends where a character begins or at the end of the text.
-use Rattle.std.proofs.Common.{◌≡◌, ◌≤◌, ◌<◌, ℕ, ◌+◌, ◌-◌, List, [], ◌∷◌, ◌++◌, length, drop, take, refl, sym, ap, ◌∙◌, subst, arith, Bool, true, false, not, cond, zero, suc, get_or, ◌||◌, ◌==◌, ◌&&◌, nat_eq, nat_lt, codes, encode_utf8_all, length-append, if◌then◌else◌, Option, Some, None, reverse, length-drop}
+use Rattle.std.proofs.Common.{◌≡◌, ◌≤◌, ◌<◌, ℕ, ◌+◌, ◌-◌, List, [], ◌∷◌, ◌++◌, length, drop, take, refl, sym, ap, ◌∙◌, subst, arith, Bool, true, false, not, cond, zero, suc, get_or, ◌||◌, ◌==◌, ◌&&◌, ◌⊎◌, inl, inr, nat_eq, nat_lt, codes, encode_utf8_all, length-append, if◌then◌else◌, Option, Some, None, reverse, length-drop}
 use Rattle.std.specs.List.{prefix_len, suffix_len, starts_with, list_any, list_all}
 use Rattle.std.specs.Option.{option_map}
 use Rattle.std.specs.Char.{is_ascii_digit}
@@ -14,7 +14,7 @@ use Rattle.unicode_ident.proofs.IdentLemmas.{is_xid_start-is_xid_continue, is_xi
 use Rattle.jesc_lexer.specs.Characters.{is_white, is_line_feed, is_at_sign, is_underscore, is_digit_part, is_backslash, is_backslash_part, is_word_start, is_word_part, begins, first_of}
 use Rattle.jesc_lexer.specs.Lexemes.{word_len, digits_len, number_len, number_at, has_suffix, is_bad_number, backslash_part_len, first_fit, note_signs, double_signs, single_signs, sign_len, sign_at, token_at}
 use Rattle.jesc_lexer.specs.Pieces.{line_len, closing, blank_len, skip_comment, note_piece, annotation, line_comment, closed_comment, block_comment, code_piece, is_conditional}
-use Rattle.jesc_lexer.specs.Spans.{Ends, IsStep}
+use Rattle.jesc_lexer.specs.Inner.{Ends, IsStep}
 use Rattle.jesc_lexer.specs.declared.token.TokenKind.TheVariants.{Word, Backslash, Number, Sign}
 use Rattle.jesc_lexer.specs.declared.piece.Piece.{Piece}
 use Rattle.jesc_lexer.specs.declared.piece.Piece.TheVariants.{Blank, Lexeme, Bad}
@@ -369,17 +369,18 @@ line_note text utf8 two =
     }
 
 -- the byte behind what is kept of a block's body is an at sign, or the star that closes it
-kept_ascii : (rest : List ℕ) (k : ℕ) → Closes rest k
-    → get_or rest (length (take k rest) - suffix_len is_at_sign (drop (prefix_len is_at_sign (take k rest)) (take k rest))) 0 < 128
-kept_ascii rest k closes = by_trail (suffix_len is_at_sign (drop (prefix_len is_at_sign (take k rest)) (take k rest))) refl
+pub kept_byte : (rest : List ℕ) (k : ℕ) → Closes rest k
+    → let b = get_or rest (length (take k rest) - suffix_len is_at_sign (drop (prefix_len is_at_sign (take k rest)) (take k rest))) 0 in (is_at_sign b ≡ true) ⊎ (b ≡ 42)
+kept_byte rest k closes = by_trail (suffix_len is_at_sign (drop (prefix_len is_at_sign (take k rest)) (take k rest))) refl
   where
     size : length (take k rest) ≡ k
     size = length-take-le k rest (omega (arith, closes.within))
 
-    by_trail : (trail : ℕ) → suffix_len is_at_sign (drop (prefix_len is_at_sign (take k rest)) (take k rest)) ≡ trail → get_or rest (length (take k rest) - trail) 0 < 128
+    by_trail : (trail : ℕ) → suffix_len is_at_sign (drop (prefix_len is_at_sign (take k rest)) (take k rest)) ≡ trail
+        → (is_at_sign (get_or rest (length (take k rest) - trail) 0) ≡ true) ⊎ (get_or rest (length (take k rest) - trail) 0 ≡ 42)
     by_trail zero same =
         let place : length (take k rest) - 0 ≡ k = omega (arith, size) in
-        subst (λ i. get_or rest i 0 < 128) (sym place) (omega (arith, closes.star))
+        inr (ap (λ i. get_or rest i 0) place ∙ closes.star)
     by_trail (suc t) same =
         let body = take k rest in
         let lead = prefix_len is_at_sign body in
@@ -395,7 +396,15 @@ kept_ascii rest k closes = by_trail (suffix_len is_at_sign (drop (prefix_len is_
         let inside : length body - suc t < k = omega (arith, size, some, sizes) in
         let shown = get_or-take k rest (length body - suc t) 0 inside in
         let same_byte : get_or (reverse xs) t 0 ≡ get_or rest (length body - suc t) 0 = at ∙ deep ∙ ap (λ i. get_or body i 0) place ∙ shown in
-        subst (λ b. b < 128) same_byte (at_ascii (get_or (reverse xs) t 0) passes)
+        inl (ap is_at_sign (sym same_byte) ∙ passes)
+
+kept_ascii : (rest : List ℕ) (k : ℕ) → Closes rest k
+    → get_or rest (length (take k rest) - suffix_len is_at_sign (drop (prefix_len is_at_sign (take k rest)) (take k rest))) 0 < 128
+kept_ascii rest k closes = by_byte (kept_byte rest k closes)
+  where
+    by_byte : {b : ℕ} → (is_at_sign b ≡ true) ⊎ (b ≡ 42) → b < 128
+    by_byte {b} (inl sign) = at_ascii b sign
+    by_byte {b} (inr star) = omega (arith, star)
 
 block_note : (text : List ℕ) (k : ℕ) → IsUtf8 text → IsCharBoundary text 2 → Closes (drop 2 text) k → NoteEnds text (annotation true (take k (drop 2 text)) (k + 4))
 block_note text k utf8 two closes =

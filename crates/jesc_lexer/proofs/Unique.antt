@@ -8,7 +8,8 @@ use Rattle.jesc_lexer.specs.declared.token.Tokens.{Tokens}
 use Rattle.jesc_lexer.specs.declared.piece.Refusal.{Refusal}
 use Rattle.jesc_lexer.specs.declared.file.LexError.{LexError}
 use Rattle.jesc_lexer.specs.declared.file.LexError.TheVariants.{Refused, OutOfMemory}
-use Rattle.jesc_lexer.specs.Lexed.{IsEscape, IsNoText, HasEscape, IsRead, Outcome, Lexed, IsTold, Answers, Gives}
+use Rattle.jesc_lexer.specs.Inner.{Gives}
+use Rattle.jesc_lexer.specs.Lexed.{IsEscape, IsNoText, HasEscape, IsRead, Outcome, Lexed, IsTold, Answers}
 
 not_both : (bytes : List ℕ) (n : ℕ) → IsUtf8 bytes → IsValidUpTo bytes n → ⊥
 not_both bytes n utf8 valid = valid.longest (length bytes) valid.short (subst (λ t. IsUtf8 t) (sym (take-length bytes)) utf8)

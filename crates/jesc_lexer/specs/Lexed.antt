@@ -1,5 +1,5 @@
 -- What the reading of a whole file gives.
-use Rattle.std.specs.Prelude.{◌≡◌, ℕ, ◌+◌, ◌<◌, ◌%◌, List, [], length, take, slice_index, Result, Ok, Err, ◌⊎◌, None}
+use Rattle.std.specs.Prelude.{◌≡◌, ℕ, ◌+◌, ◌<◌, ◌%◌, List, [], take, slice_index, Result, Ok, Err, ◌⊎◌, None}
 use Rattle.std.specs.List.{suffix_len}
 use Rattle.std.specs.Str.{IsUtf8, IsValidUpTo}
 use Rattle.jesc_text.specs.Places.{line_at, column_at}
@@ -7,8 +7,6 @@ use Rattle.jesc_text.specs.declared.place.Place.{Place}
 use Rattle.jesc_lexer.specs.Characters.{is_backslash, spelled}
 use Rattle.jesc_lexer.specs.Reading.{code_tokens}
 use Rattle.jesc_lexer.specs.declared.piece.Refusal.{Refusal}
-use Rattle.jesc_lexer.specs.Spans.{AreSpans}
-use Rattle.jesc_lexer.specs.Texts.{AreTexts}
 use Rattle.jesc_lexer.specs.declared.token.Token.{Token}
 use Rattle.jesc_lexer.specs.declared.token.Tokens.{Tokens}
 use Rattle.jesc_lexer.specs.declared.file.LexError.{LexError}
@@ -66,11 +64,6 @@ pub record IsTold (file : ℕ) (bytes : List ℕ) (refusal : Refusal) (number : 
 abbrev pub IsRefused : ℕ → List ℕ → ℕ → Place → List ℕ → Type 0
 IsRefused file bytes number place word = (refusal : Refusal) × Lexed file bytes (Err refusal) × IsTold file bytes refusal number place word
 
--- the error tells the refusal, unless memory ran out
-abbrev pub IsError : ℕ → List ℕ → Refusal → LexError → Type 0
-IsError file bytes refusal (Refused number place word) = IsTold file bytes refusal number place word
-IsError file bytes refusal OutOfMemory = Unit {0}
-
 -- what lex answers is what the file gives, unless memory ran out
 abbrev pub Answers : ℕ → List ℕ → Outcome → Result Tokens LexError → Type 0
 Answers file bytes (Ok tokens) (Ok found) = found.list ≡ tokens
@@ -78,9 +71,3 @@ Answers file bytes (Err refusal) (Ok found) = ⊥
 Answers file bytes (Ok tokens) (Err (Refused number place word)) = ⊥
 Answers file bytes (Err refusal) (Err (Refused number place word)) = IsTold file bytes refusal number place word
 Answers file bytes outcome (Err OutOfMemory) = Unit {0}
-
--- the answer is the tokens of the file, or its refusal, or tells that memory ran out
-abbrev pub Gives : ℕ → List ℕ → Result Tokens LexError → Type 0
-Gives file bytes (Ok found) = (found.text ≡ bytes) × IsLexed file bytes found.list × AreSpans (length bytes) 0 found.list × AreTexts bytes found.list
-Gives file bytes (Err (Refused number place word)) = IsRefused file bytes number place word
-Gives file bytes (Err OutOfMemory) = Unit {0}

@@ -5,3 +5,6 @@ pub mod Reading
 pub mod Texts
 pub mod Spans
 pub mod Lexed
+pub mod Longest
+pub mod Elements
+pub mod Inner

@@ -1,11 +1,9 @@
 -- A text is read piece by piece. Each reading answers all tokens up to its end, those before it included, or the first refusal.
-use Rattle.std.specs.Prelude.{◌≤◌, ◌≡◌, ℕ, ◌+◌, ◌-◌, ◌==◌, ◌&&◌, zero, suc, nat_eq, Bool, true, false, List, [], ◌∷◌, ◌++◌, length, take, drop, codes, Result, Ok, Err}
+use Rattle.std.specs.Prelude.{ℕ, ◌+◌, ◌-◌, ◌==◌, ◌&&◌, zero, suc, nat_eq, Bool, true, false, List, [], ◌∷◌, ◌++◌, length, take, drop, codes, Result, Ok, Err}
 use Rattle.std.specs.List.{starts_with}
 use Rattle.jesc_lexer.specs.Pieces.{note_piece, code_piece}
 use Rattle.jesc_lexer.specs.declared.token.Token.{Token}
 use Rattle.jesc_lexer.specs.declared.piece.Refusal.{Refusal}
-use Rattle.jesc_lexer.specs.declared.piece.Stop.{Stop}
-use Rattle.jesc_lexer.specs.declared.piece.Stop.TheVariants.{Refused, OutOfMemory}
 use Rattle.jesc_lexer.specs.declared.token.TokenKind.{TokenKind}
 use Rattle.jesc_lexer.specs.declared.token.TokenKind.TheVariants.{Word, Backslash, Number, Sign}
 use Rattle.jesc_lexer.specs.declared.piece.Piece.{Piece}
@@ -71,27 +69,3 @@ code_tokens text file [] within at tokens = Ok tokens
 code_tokens text file (b ∷ bytes) (suc within) at tokens = code_tokens text file bytes within (at + 1) tokens
 code_tokens text file (b ∷ bytes) zero at tokens =
     behind_code (λ n more. code_tokens text file bytes (n - 1) (at + 1) more) text file at (b ∷ bytes) tokens (code_piece (b ∷ bytes))
-
--- What a step of a reading answers is what the reading goes on with, whatever comes next, unless memory ran out.
-abbrev pub Continues : ((ℕ → List Token → Result (List Token) Refusal) → Result (List Token) Refusal) → Result ℕ Stop → List Token → Type 0
-Continues reading (Ok n) tokens = (next : ℕ → List Token → Result (List Token) Refusal) → reading next ≡ next n tokens
-Continues reading (Err (Refused refusal)) tokens = (next : ℕ → List Token → Result (List Token) Refusal) → reading next ≡ Err refusal
-Continues reading (Err OutOfMemory) tokens = Unit {0}
-
--- A whole reading answers these tokens or this refusal, unless memory ran out.
-abbrev pub Reads : Result (List Token) Refusal → Result (Unit {0}) Stop → List Token → Type 0
-Reads reading (Ok done) tokens = reading ≡ Ok tokens
-Reads reading (Err (Refused refusal)) tokens = reading ≡ Err refusal
-Reads reading (Err OutOfMemory) tokens = Unit {0}
-
--- a token at this offset ends within the greatest file
-abbrev pub fits_at : ℕ → Piece → Type 0
-fits_at at (Blank n) = Unit {0}
-fits_at at (Lexeme kind n) = at + n ≤ 1048576
-fits_at at (Bad number character) = Unit {0}
-
--- a refusal stands at this offset or before it
-abbrev pub StopsBy : {A : Type 0} → ℕ → Result A Stop → Type 0
-StopsBy most (Ok done) = Unit {0}
-StopsBy most (Err (Refused refusal)) = refusal.at ≤ most
-StopsBy most (Err OutOfMemory) = Unit {0}

@@ -1,12 +1,10 @@
 -- Which texts are tokens, of each kind.
-use Rattle.std.specs.Prelude.{◌≡◌, ◌≤◌, ◌<◌, ℕ, ◌-◌, Bool, true, false, List, [], ◌∷◌, ◌++◌, length, take, drop, codes, nat_eq, slice_index, encode_utf8_all, ◌⊎◌}
+use Rattle.std.specs.Prelude.{◌≡◌, ◌≤◌, ◌<◌, ℕ, ◌-◌, Bool, true, false, List, [], ◌∷◌, ◌++◌, length, codes, nat_eq, slice_index, encode_utf8_all, ◌⊎◌}
 use Rattle.std.specs.List.{list_all, starts_with, AllByRecursion}
 use Rattle.std.specs.Char.{is_ascii_digit}
 use Rattle.jesc_lexer.specs.Characters.{is_word_start, is_word_part, is_backslash_part, is_digit_part, is_underscore, is_suffix, begins}
 use Rattle.jesc_lexer.specs.Lexemes.{digits_value_of, signs_of}
 use Rattle.jesc_lexer.specs.Reading.{token_text}
-use Rattle.jesc_lexer.specs.declared.piece.Piece.{Piece}
-use Rattle.jesc_lexer.specs.declared.piece.Piece.TheVariants.{Blank, Lexeme, Bad}
 use Rattle.jesc_lexer.specs.declared.token.Token.{Token}
 use Rattle.jesc_lexer.specs.declared.token.TokenKind.{TokenKind}
 use Rattle.jesc_lexer.specs.declared.token.TokenKind.TheVariants.{Word, Backslash, Number, Sign}
@@ -62,14 +60,3 @@ IsTokenText note Sign text = IsOneOf (signs_of note note) text
 -- each token's text is one of its kind
 abbrev pub AreTexts : List ℕ → List Token → Type 0
 AreTexts text tokens = AllByRecursion (λ token. IsTokenText token.note token.kind (token_text text token)) tokens
-
--- the token that a piece at the front of the rest is, if it is one, has a text of its kind
-abbrev pub IsTextOf : Bool → List ℕ → Piece → Type 0
-IsTextOf note rest (Blank n) = Unit {0}
-IsTextOf note rest (Lexeme kind n) = IsTokenText note kind (take n rest)
-IsTextOf note rest (Bad number character) = Unit {0}
-
--- these bytes stand in the text at an offset
-pub record StandsAt (text : List ℕ) (at : ℕ) (bytes : List ℕ) : Type 0 where
-  pub more : List ℕ
-  pub spells : drop at text ≡ bytes ++ more

@@ -1,6 +1,7 @@
 ghost use Rattle.std.specs.Prelude.{◌≡◌, ℕ, ◌≤◌, ◌<◌, length, IfOk, Ok, Err, Result};
 ghost use Rattle.jesc_lexer.specs.Characters.{spelled};
-ghost use Rattle.jesc_lexer.specs.Lexed.{Outcome, Lexed, IsLexed, IsRefused, IsError, Answers, Gives};
+ghost use Rattle.jesc_lexer.specs.Inner.{IsError, Gives};
+ghost use Rattle.jesc_lexer.specs.Lexed.{Outcome, Lexed, IsLexed, IsRefused, Answers};
 ghost use Rattle.jesc_lexer.specs.Texts.{AreTexts};
 ghost use Rattle.jesc_lexer.specs.Spans.{AreSpans, Bytes};
 
@@ -64,6 +65,7 @@ fn refused(alloc: Global, file: u32, bytes: &[u8], refusal: Refusal) -> LexError
 }
 
 /// The tokens of a file, or its refusal.
+#[tactic(auto, using(crate::proofs::Refused::no_text_gives))]
 fn read_file(alloc: Global, file: u32, bytes: &[u8]) -> Result<Tokens, LexError>
     requires { length bytes.now ≤ 1048576 }
     ensures { Gives file bytes.now result }

@@ -1,9 +1,9 @@
 //! Reading a text piece by piece: the code of a file, and the inside of each of its annotations.
 ghost use Rattle.std.specs.Prelude.{true, ◌≡◌, ◌≤◌, ◌<◌, ◌+◌, ◌-◌, ◌∷◌, ◌++◌, [], length, drop, take, OnOk, IfOk};
 ghost use Rattle.std.specs.Str.{IsCharBoundary};
-ghost use Rattle.jesc_lexer.specs.Reading.{token_text, token, is_word, is_represents, after_represents, behind, behind_code, note_tokens, code_tokens, Continues, Reads, fits_at, StopsBy};
-ghost use Rattle.jesc_lexer.specs.Spans.{AreSpans, AreBefore, Ends, IsStep, Bytes};
-ghost use Rattle.jesc_lexer.specs.Texts.{IsTextOf, StandsAt};
+ghost use Rattle.jesc_lexer.specs.Inner.{Continues, Reads, fits_at, StopsBy, AreBefore, Ends, IsStep, IsTextOf, StandsAt};
+ghost use Rattle.jesc_lexer.specs.Reading.{token_text, token, is_word, is_represents, after_represents, behind, behind_code, note_tokens, code_tokens};
+ghost use Rattle.jesc_lexer.specs.Spans.{AreSpans, Bytes};
 ghost use Rattle.jesc_lexer.specs.Pieces.{note_piece, code_piece};
 
 use crate::comment::{code_piece, note_piece};

@@ -16,8 +16,8 @@ pub enum TokenKind {
 /// A token: its text is the slice of the file's text at its span.
 #[derive(Debug, Drop, Clone, Copy, PartialEq, Eq)]
 pub struct Token {
-    pub kind: TokenKind,
     pub span: Span,
+    pub kind: TokenKind,
     /// Whether the token stands in an annotation.
     pub note: bool,
 }

@@ -13,9 +13,6 @@ pub struct List<T> {
     items: Vec<T>,
 }
 
-/// A text, as a list of bytes.
-pub type Text = List<u8>;
-
 impl<T> Model for List<T> {
     ghost use Rattle.std.specs.Prelude.{List as Items};
     ghost use Rattle.std.specs.Coded.{coded_list};

@@ -4,7 +4,8 @@ ghost use Rattle.std.specs.Char.{digit_value};
 ghost use Rattle.std.specs.Fmt.{decimal, signed_decimal};
 ghost use Rattle.jesc_text.specs.Numbers.{IsNatural, IsNumber};
 
-use crate::list::{OutOfMemory, Text};
+use crate::list::OutOfMemory;
+use crate::text::Text;
 
 /// Writes the digits of a number to the end of a buffer, and tells where they begin; one byte stays before them.
 fn fill_digits(buffer: &mut [u8], n: u128) -> usize

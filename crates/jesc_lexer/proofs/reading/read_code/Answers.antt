@@ -2,8 +2,8 @@ use Rattle.std.proofs.Common.{◌≡◌, ◌<◌, ◌+◌, ◌-◌, ◌∙◌, a
 use Rattle.std.proofs.lemmas.Str.{IsCharBoundary-from_drop}
 use Rattle.std.proofs.lemmas.Result.{err_from_is_err_and}
 use Rattle.jesc_lexer.specs.Pieces.{code_piece}
-use Rattle.jesc_lexer.specs.Reading.{behind_code, Continues}
-use Rattle.jesc_lexer.specs.Spans.{Ends, AreBefore}
+use Rattle.jesc_lexer.specs.Inner.{Continues, Ends, AreBefore}
+use Rattle.jesc_lexer.specs.Reading.{behind_code}
 use Rattle.jesc_lexer.proofs.Readings.{code_turn, code_fails, code_ends, utf8_turn, within_turn, same_reading, stops_later}
 use Rattle.jesc_lexer.proofs.reading.read_code.Goals as goal
 

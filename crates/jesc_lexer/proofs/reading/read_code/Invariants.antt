@@ -1,7 +1,7 @@
 use Rattle.std.proofs.Common.{◌≡◌, ◌≤◌, ◌-◌, length, drop, []}
 use Rattle.std.specs.Str.{IsUtf8}
 use Rattle.jesc_lexer.specs.Reading.{code_tokens}
-use Rattle.jesc_lexer.specs.Spans.{AreBefore}
+use Rattle.jesc_lexer.specs.Inner.{AreBefore}
 use Rattle.jesc_lexer.proofs.reading.read_code.Given as goal
 
 abbrev pub invariant-loop-at : goal.invariant-loop-at

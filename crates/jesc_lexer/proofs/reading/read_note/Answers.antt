@@ -1,10 +1,9 @@
 use Rattle.std.proofs.Common.{◌≡◌, ◌<◌, ◌+◌, ◌-◌, Err, ◌∙◌, sym, ap, subst, true, length, drop, ℕ, Ok, arith, length-drop}
 use Rattle.std.proofs.lemmas.Str.{IsCharBoundary-from_drop}
-use Rattle.jesc_lexer.specs.Reading.{after_represents, behind, Continues}
+use Rattle.jesc_lexer.specs.Inner.{Continues, Ends, AreBefore, StandsAt}
+use Rattle.jesc_lexer.specs.Reading.{after_represents, behind}
 use Rattle.jesc_lexer.specs.Pieces.{note_piece}
 use Rattle.std.proofs.lemmas.Result.{err_from_is_err_and}
-use Rattle.jesc_lexer.specs.Spans.{Ends, AreBefore}
-use Rattle.jesc_lexer.specs.Texts.{StandsAt}
 use Rattle.jesc_lexer.proofs.KindTexts.{stands_later}
 use Rattle.jesc_lexer.proofs.Readings.{note_turn, note_fails, note_ends, utf8_turn, within_turn, same_reading, stops_later}
 use Rattle.jesc_lexer.proofs.reading.read_note.Goals as goal

@@ -1,8 +1,7 @@
 use Rattle.std.proofs.Common.{◌≡◌, ◌≤◌, ◌-◌, ◌+◌, length, drop}
 use Rattle.std.specs.Str.{IsUtf8}
 use Rattle.jesc_lexer.specs.Reading.{note_tokens}
-use Rattle.jesc_lexer.specs.Texts.{StandsAt}
-use Rattle.jesc_lexer.specs.Spans.{AreBefore}
+use Rattle.jesc_lexer.specs.Inner.{StandsAt, AreBefore}
 use Rattle.jesc_lexer.proofs.reading.read_note.Given as goal
 
 abbrev pub invariant-loop-at : goal.invariant-loop-at

@@ -2,11 +2,10 @@ use Rattle.std.proofs.Common.{◌≡◌, ◌≤◌, ◌+◌, ◌-◌, ◌∙◌,
 use Rattle.std.proofs.lemmas.List.{length-take-le, length-drop}
 use Rattle.std.proofs.lemmas.Result.{err_from_is_err_and}
 use Rattle.jesc_lexer.specs.Pieces.{code_piece}
-use Rattle.jesc_lexer.specs.Reading.{behind_code, note_tokens, Continues}
-use Rattle.jesc_lexer.specs.Spans.{IsStep}
+use Rattle.jesc_lexer.specs.Inner.{Continues, IsStep, StandsAt}
+use Rattle.jesc_lexer.specs.Reading.{behind_code, note_tokens}
 use Rattle.jesc_lexer.specs.declared.piece.CodePiece.TheVariants.{Plain, Annotation}
 use Rattle.jesc_lexer.proofs.Steps.{IsCodeStep, NoteEnds, code_step}
-use Rattle.jesc_lexer.specs.Texts.{StandsAt}
 use Rattle.jesc_lexer.proofs.KindTexts.{IsCodeTextOf, code_of, stands_later, stands_front}
 use Rattle.jesc_lexer.proofs.Readings.{step_fits, annotation_goes, before_later, stops_later}
 use Rattle.jesc_lexer.proofs.reading.take_code.Goals as goal

@@ -1,8 +1,7 @@
 use Rattle.std.proofs.Common.{◌≡◌, ◌∙◌, sym, ap, subst, true, length}
 use Rattle.jesc_lexer.specs.Pieces.{note_piece}
-use Rattle.jesc_lexer.specs.Reading.{after_represents, behind, Continues}
-use Rattle.jesc_lexer.specs.Spans.{IsStep}
-use Rattle.jesc_lexer.specs.Texts.{IsTextOf}
+use Rattle.jesc_lexer.specs.Inner.{Continues, IsStep, IsTextOf}
+use Rattle.jesc_lexer.specs.Reading.{after_represents, behind}
 use Rattle.jesc_lexer.proofs.KindTexts.{note_of}
 use Rattle.jesc_lexer.proofs.Steps.{note_step}
 use Rattle.jesc_lexer.proofs.Readings.{step_fits}

@@ -1,6 +1,5 @@
 use Rattle.std.proofs.Common.{◌+◌, sym, subst}
-use Rattle.jesc_lexer.specs.Spans.{Ends, IsStep, AreBefore}
-use Rattle.jesc_lexer.specs.Texts.{IsTextOf}
+use Rattle.jesc_lexer.specs.Inner.{Ends, IsStep, AreBefore, IsTextOf}
 use Rattle.jesc_lexer.proofs.Readings.{before_more}
 use Rattle.jesc_lexer.proofs.reading.take_piece.Goals as goal
 

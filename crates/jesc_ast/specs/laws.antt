@@ -1,0 +1,5 @@
+pub mod Places
+pub mod SpelledExpressions
+pub mod SpelledStatements
+pub mod SpelledSpecifications
+pub mod SpelledMembers
