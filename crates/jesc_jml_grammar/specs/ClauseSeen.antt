@@ -1,11 +1,9 @@
 -- What the values of the parser of specifications stand for.
-use Rattle.std.specs.Prelude.{ℕ, ◌≤◌, true, false, Option, Some, None, List, [], ◌∷◌}
+use Rattle.std.specs.Prelude.{ℕ, ◌≤◌, true, Option, Some, None, List, [], ◌∷◌}
 use Rattle.jesc_ast.specs.Lexemes.{Lexeme}
-use Rattle.jesc_ast.specs.Trees.{Expression, optional_view, Clause, clause}
+use Rattle.jesc_ast.specs.Trees.{optional_view, Clause}
 use Rattle.jesc_text.specs.declared.place.Span.{Span}
-use Rattle.jesc_ast.specs.declared.word.TypeTree.{TypeTree}
-use Rattle.jesc_ast.specs.FileTrees.{MemberForm, class_invariant, represents}
-use Rattle.jesc_ast.specs.SpecTrees.{StoreForm, Store, store, store_view, Promise, assigns, Case, Specification}
+use Rattle.jesc_ast.specs.SpecTrees.{StoreForm, Store, store, store_view, Promise, Case}
 use Rattle.jesc_jml_grammar.specs.declared.cursor.Lexeme as code
 use Rattle.jesc_jml_grammar.specs.declared.part.Measured as code_measured
 use Rattle.jesc_jml_grammar.specs.declared.part.Ended as code_ended
@@ -18,14 +16,14 @@ use Rattle.jesc_ast.specs.declared.word.Word.{Word}
 use Rattle.jesc_jml_grammar.specs.declared.mark.Mark.TheVariants as m
 use Rattle.jesc_jml_grammar.specs.declared.note_word.NoteWord.{NoteWord}
 use Rattle.jesc_jml_grammar.specs.declared.note_word.NoteWord.TheVariants as w
-use Rattle.jesc_jml_grammar.specs.Steps.{Parser, expect, pure, ◌>>=◌, ◌>>◌}
+use Rattle.jesc_jml_grammar.specs.Steps.{Parser, expect}
 use Rattle.jesc_jml_grammar.specs.ClauseMarks.{at_mark, at_word, word_at, expect_word, is_modifier_word, may_begin_clause}
 use Rattle.jesc_jml_grammar.specs.ClauseLists.{until, more_separated}
-use Rattle.jesc_jml_grammar.specs.ClauseReading.{modifier, store_behind, one_store, longer, clause_of, spec_clause, spec_clauses, one_case, more_cases, specification_of, groups, field_ending}
-use Rattle.jesc_jml_grammar.specs.Reading.{Parsed, Start, expr, turns, word_of}
+use Rattle.jesc_jml_grammar.specs.ClauseReading.{modifier, store_behind, one_store, longer, clause_of, spec_clause, one_case}
+use Rattle.jesc_jml_grammar.specs.Reading.{Parsed, Start, expr, turns}
 use Rattle.jesc_jml_grammar.specs.Nests.{parsed}
 use Rattle.jesc_jml_grammar.specs.Seen.{lexeme}
-use Rattle.jesc_jml_grammar.specs.ClauseFound.{Sized, Ended, Path, plain, with_index, StoreStep, goes_on, is_read, Value, with_word, with_more, range_of, closed, sized, optional_word, with_ended, signals_of, case_tree, spec_of, field_of, first_word, ended as done}
+use Rattle.jesc_jml_grammar.specs.ClauseFound.{Sized, Ended, Path, plain, with_index, StoreStep, goes_on, is_read, Value, with_word, with_more, closed, sized, optional_word, with_ended}
 
 abbrev pub measured : {X Y : Type 0} → (X → Y) → code_measured.Measured X → Sized Y
 measured view x = record { tree = view x.tree; depth = x.depth }
@@ -65,10 +63,11 @@ kept_word x = optional_word (optional_lexeme x)
 abbrev pub note_rule : {A : Type 0} → (ℕ → ℕ → (ℕ → ℕ → Start → Parser Parsed) → ℕ → A) → ℕ → ℕ → A
 note_rule p room quantifiers = p turns room (expr true turns room) quantifiers
 
--- ---- the rest of a list
+-- a list of one store
+abbrev pub lone_store : Span → StoreForm → Sized (List Store)
+lone_store span form = sized (store span form ∷ []) 0
 
-abbrev pub further_name : Parser Lexeme
-further_name = expect true m.Comma >> expect true m.Name
+-- ---- the rest of a list
 
 abbrev pub more_names : ℕ → List Word → Parser (List Word)
 more_names = more_separated (at_mark m.Comma) (expect true m.Comma) (expect true m.Name) with_word
@@ -84,17 +83,6 @@ stores_left room quantifiers = note_rule store_behind room quantifiers
 abbrev pub longer_by : ℕ → ℕ → (ℕ → ℕ → (ℕ → ℕ → Start → Parser Parsed) → ℕ → Parsed → Parser StoreStep) → Path → Parser StoreStep
 longer_by room quantifiers p path = note_rule longer room quantifiers (closed path) (note_rule p room quantifiers (closed path))
 
--- behind the second bound of a range
-abbrev pub range_ending : Parsed → Parsed → Parsed → Parser StoreStep
-range_ending e i j = do
-  q ← expect true m.RightBracket
-  pure (is_read (range_of e i j q))
-
--- ---- the rest of other lists
-
-abbrev pub further_store : ℕ → ℕ → Parser (Sized Store)
-further_store room quantifiers = expect true m.Comma >> note_rule one_store room quantifiers
-
 abbrev pub more_stores : ℕ → ℕ → ℕ → Sized (List Store) → Parser (Sized (List Store))
 more_stores room quantifiers = more_separated (at_mark m.Comma) (expect true m.Comma) (note_rule one_store room quantifiers) with_more
 
@@ -104,76 +92,5 @@ more_demands room quantifiers = until (at_word w.Requires) (note_rule clause_of 
 abbrev pub more_clauses : ℕ → ℕ → NoteWord → ℕ → Ended (List Promise) → Parser (Ended (List Promise))
 more_clauses room quantifiers heading = until (λ ts. may_begin_clause heading (word_at ts)) (note_rule spec_clause room quantifiers) with_ended
 
-abbrev pub further_case : ℕ → ℕ → Parser (Sized Case)
-further_case room quantifiers = expect_word w.Also >> note_rule one_case room quantifiers
-
 abbrev pub cases_left : ℕ → ℕ → ℕ → Sized (List Case) → Parser (Sized (List Case))
 cases_left room quantifiers = more_separated (at_word w.Also) (expect_word w.Also) (note_rule one_case room quantifiers) with_more
-
--- ---- the ends of rules
-
-abbrev pub clause_ending : Lexeme → Parsed → Parser (Ended Clause)
-clause_ending x e = do
-  q ← expect true m.Semicolon
-  pure (done (clause (word_of x) e.tree) e.depth q)
-
-abbrev pub assignable_ending : Lexeme → Sized (List Store) → Parser (Ended Promise)
-assignable_ending x ts = do
-  q ← expect true m.Semicolon
-  pure (done (assigns (word_of x) ts.tree) ts.depth q)
-
-abbrev pub signals_ending : Lexeme → Lexeme → Lexeme → Option Word → Sized (Option Expression) → Parser (Ended Promise)
-signals_ending x p class n e = do
-  q ← expect true m.Semicolon
-  pure (signals_of x p class n e q)
-
-abbrev pub signals_only_ending : Promise → Parser (Ended Promise)
-signals_only_ending c = do
-  q ← expect true m.Semicolon
-  pure (done c 0 q)
-
-abbrev pub case_ending : ℕ → ℕ → Span → Option Word → Option Word → NoteWord → Ended (List Clause) → Parser (Sized Case)
-case_ending room quantifiers first visibility heading word ds = do
-  ps ← note_rule spec_clauses room quantifiers word ds.last
-  pure (case_tree first visibility heading ds ps)
-
-abbrev pub behind_first_case : ℕ → ℕ → Sized Case → Parser (Sized Specification)
-behind_first_case room quantifiers c = do
-  cs ← note_rule more_cases room quantifiers c
-  pure (spec_of false cs)
-
-abbrev pub lone_store : Span → StoreForm → Sized (List Store)
-lone_store span form = sized (store span form ∷ []) 0
-
-abbrev pub further_specification : ℕ → ℕ → Parser (Sized Specification)
-further_specification room quantifiers = expect_word w.Also >> note_rule specification_of room quantifiers true
-
-abbrev pub invariant_ending : List Word → Parsed → Parser (Ended MemberForm)
-invariant_ending ws e = do
-  q ← expect true m.Semicolon
-  pure (done (class_invariant ws e.tree) e.depth q)
-
-abbrev pub represents_ending : List Word → Lexeme → Lexeme → Parsed → Parser (Ended MemberForm)
-represents_ending ws x op e = do
-  q ← expect true m.Semicolon
-  pure (done (represents (first_word ws) (word_of x) (word_of op) e.tree) e.depth q)
-
-abbrev pub groups_ending : List Word → Parser (Ended (List Word))
-groups_ending ws = do
-  q ← expect true m.Semicolon
-  pure (done ws 0 q)
-
-abbrev pub field_groups : ℕ → ℕ → List Word → TypeTree → Lexeme → Value → Lexeme → Parser (Ended MemberForm)
-field_groups room quantifiers ws ty y v q = do
-  gs ← note_rule groups room quantifiers q
-  pure (field_of ws ty y v gs)
-
-abbrev pub field_closing : ℕ → ℕ → List Word → TypeTree → Lexeme → Value → Parser (Ended MemberForm)
-field_closing room quantifiers ws ty y v = do
-  q ← expect true m.Semicolon
-  field_groups room quantifiers ws ty y v q
-
-abbrev pub field_name : ℕ → ℕ → List Word → TypeTree → Parser (Ended MemberForm)
-field_name room quantifiers ws ty = do
-  y ← expect true m.Name
-  note_rule field_ending room quantifiers ws ty y

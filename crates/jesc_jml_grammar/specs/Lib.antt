@@ -6,10 +6,9 @@ pub mod Found
 pub mod Reading
 pub mod Tails
 pub mod Nests
-pub mod Refining
 pub mod ClauseMarks
 pub mod ClauseLists
-pub mod ListTurns
 pub mod ClauseFound
 pub mod ClauseReading
 pub mod ClauseSeen
+pub mod laws

@@ -1,5 +1,5 @@
 -- What a lexeme is to the grammar of expressions.
-use Rattle.std.specs.Prelude.{ℕ, Bool, true, false, if◌then◌else◌, List, [], ◌∷◌, ◌++◌, codes, bytes_eq}
+use Rattle.std.specs.Prelude.{ℕ, Bool, true, false, if◌then◌else◌, List, [], ◌∷◌, codes, bytes_eq}
 use Rattle.jesc_lexer.specs.declared.token.TokenKind.{TokenKind}
 use Rattle.jesc_lexer.specs.declared.token.TokenKind.TheVariants as kinds
 use Rattle.jesc_ast.specs.Lexemes.{Lexeme}

@@ -2,10 +2,8 @@
 use Rattle.std.specs.Prelude.{ℕ, ◌≤◌, Bool, map, Result, IfOk}
 use Rattle.std.specs.declared.alloc.Global.{Global}
 use denote.Ref.{MutBor}
-use Rattle.jesc_text.specs.declared.place.Span.{Span}
 use Rattle.jesc_ast.specs.declared.expr.Receiver as code_receiver
-use Rattle.jesc_ast.specs.declared.expr.Receiver.{fold-Receiver}
-use Rattle.jesc_ast.specs.Trees.{Expression, Receiver, view, node_step, receiver_step, expr_step}
+use Rattle.jesc_ast.specs.Trees.{Expression, Receiver, view, receiver_view}
 use Rattle.jesc_jml_grammar.specs.declared.fault.ParseError.{ParseError}
 use Rattle.jesc_jml_grammar.specs.declared.cursor.Cursor.{Cursor}
 use Rattle.jesc_jml_grammar.specs.declared.found.Found.{Found}
@@ -30,7 +28,7 @@ start_of (starts.BehindBracket x p) = behind_bracket (lexeme x) (lexeme p)
 
 -- what a receiver stands for
 abbrev pub receiver_of : code_receiver.Receiver → Receiver
-receiver_of = fold-Receiver (Span → Expression) Receiver Expression node_step receiver_step expr_step
+receiver_of = receiver_view
 
 abbrev pub bounds_of : limits.Bounds → Bounds
 bounds_of b = record { low = parsed b.low; low_strict = b.low_strict; high = parsed b.high; high_strict = b.high_strict }

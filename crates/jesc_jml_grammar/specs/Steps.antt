@@ -1,5 +1,5 @@
 -- Parsers on lists of lexemes, and what a parser of the program gives.
-use Rattle.std.specs.Prelude.{◌≡◌, ℕ, Bool, false, ◌&&◌, bytes_eq, if◌then◌else◌, List, [], ◌∷◌, length, Result, Ok, Err}
+use Rattle.std.specs.Prelude.{◌≡◌, ℕ, Bool, false, ◌&&◌, bytes_eq, if◌then◌else◌, Option, Some, None, List, [], ◌∷◌, length, Result, Ok, Err}
 use denote.Enum.Bare.{sameb}
 use Rattle.jesc_ast.specs.Lexemes.{Lexeme}
 use Rattle.jesc_jml_grammar.specs.contracts.mark.Mark.{the_type}
@@ -42,6 +42,11 @@ too_deep = λ ts. Err (Deep (length ts))
 -- where a list takes more turns than are left
 abbrev pub too_long : {A : Type 0} → Parser A
 too_long = λ ts. Err Long
+
+-- the lexeme that comes next
+abbrev pub head : List Lexeme → Option Lexeme
+head [] = None
+head (x ∷ xs) = Some x
 
 unfoldable pub same_mark : Mark → Mark → Bool
 same_mark = sameb the_type

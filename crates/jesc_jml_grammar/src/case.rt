@@ -1,12 +1,10 @@
 //! Cases of a specification.
 
-ghost use Rattle.std.specs.Prelude.{◌≡◌, ◌<◌, true, map, Some, None};
-ghost use Rattle.jesc_jml_grammar.specs.Reading as spec;
+ghost use Rattle.std.specs.Prelude.{◌≡◌, ◌<◌, true, map};
 ghost use Rattle.jesc_jml_grammar.specs.Steps.{Reads};
 ghost use Rattle.jesc_jml_grammar.specs.Seen.{seen, lexeme, IsKept};
 ghost use Rattle.jesc_jml_grammar.specs.Nests.{Nests};
 ghost use Rattle.jesc_jml_grammar.specs.ClauseReading as rules;
-ghost use Rattle.jesc_jml_grammar.specs.ClauseSeen as views;
 ghost use Rattle.jesc_ast.specs.Trees.{clause_view};
 ghost use Rattle.jesc_ast.specs.SpecTrees.{promise_view, case_view};
 ghost use Rattle.jesc_jml_grammar.specs.ClauseFound as found;
@@ -35,18 +33,23 @@ fn span_from(visibility: Option<Lexeme<'_>>, x: Lexeme<'_>) -> Span
 impl<
     F: Fn(Global, &mut Cursor<'_>, usize, usize, usize, Start<'_>) -> Result<Found, ParseError>,
 > Grammar<F> {
-    #[tactic(auto, using(crate::proofs::ListTurns::until_stops, crate::proofs::ListTurns::until_goes_on, crate::proofs::ListTurns::until_ends))]
-    fn more_demands(
+    /// The `requires` clauses, behind a token of this span.
+    #[tactic(auto, unfolding(crate::specs::ClauseReading::demands), using(crate::proofs::ListTurns::until_stops, crate::proofs::ListTurns::until_goes_on, crate::proofs::ListTurns::until_ends))]
+    fn demands(
         &self,
         cursor: &mut Cursor<'_>,
-        first: Ended<List<ClauseTree>>,
+        last: Span,
     ) -> Result<Ended<List<ClauseTree>>, ParseError>
         requires nests { Nests self.now.room (F.pre self.now.expr) (F.post self.now.expr) }
         requires side { cursor.old.note ≡ true }
-        ensures reads { Reads (ended (map clause_view)) (views.more_demands self.now.room self.now.quantifiers spec.turns (ended (map clause_view) first) (seen cursor.old)) result (seen cursor.new) }
+        ensures reads { Reads (ended (map clause_view)) (note_rule rules.demands self.now.room self.now.quantifiers last (seen cursor.old)) result (seen cursor.new) }
         ensures kept { IsKept cursor.old cursor.new }
     {
-        let mut found = first;
+        let mut found = Ended {
+            tree: List::new(self.alloc),
+            depth: 0,
+            last,
+        };
         let turns = turns();
         for _turn in 0..turns {
             if !cursor.is_at_word(NoteWord::Requires) {
@@ -58,53 +61,8 @@ impl<
         Err(ParseError::Fault(Fault::Long))
     }
 
-    /// The `requires` clauses, behind a token of this span.
-    #[tactic(auto, unfolding(crate::specs::ClauseReading::demands))]
-    fn demands(
-        &self,
-        cursor: &mut Cursor<'_>,
-        last: Span,
-    ) -> Result<Ended<List<ClauseTree>>, ParseError>
-        requires nests { Nests self.now.room (F.pre self.now.expr) (F.post self.now.expr) }
-        requires side { cursor.old.note ≡ true }
-        ensures reads { Reads (ended (map clause_view)) (note_rule rules.demands self.now.room self.now.quantifiers last (seen cursor.old)) result (seen cursor.new) }
-        ensures kept { IsKept cursor.old cursor.new }
-    {
-        let none = Ended {
-            tree: List::new(self.alloc),
-            depth: 0,
-            last,
-        };
-        self.more_demands(cursor, none)
-    }
-
-    #[tactic(auto, using(crate::proofs::ListTurns::until_stops, crate::proofs::ListTurns::until_goes_on, crate::proofs::ListTurns::until_ends))]
-    fn more_clauses(
-        &self,
-        cursor: &mut Cursor<'_>,
-        heading: NoteWord,
-        first: Ended<List<SpecClause>>,
-    ) -> Result<Ended<List<SpecClause>>, ParseError>
-        requires nests { Nests self.now.room (F.pre self.now.expr) (F.post self.now.expr) }
-        requires side { cursor.old.note ≡ true }
-        requires room { self.now.room < 1000 }
-        ensures reads { Reads (ended (map promise_view)) (views.more_clauses self.now.room self.now.quantifiers heading spec.turns (ended (map promise_view) first) (seen cursor.old)) result (seen cursor.new) }
-        ensures kept { IsKept cursor.old cursor.new }
-    {
-        let mut found = first;
-        let turns = turns();
-        for _turn in 0..turns {
-            if !may_begin_clause(heading, cursor.peek_word()) {
-                return Ok(found);
-            }
-            let next = self.spec_clause(cursor)?;
-            found = with_promise(found, next)?;
-        }
-        Err(ParseError::Fault(Fault::Long))
-    }
-
     /// The other clauses that the heading allows, behind a token of this span.
-    #[tactic(auto, unfolding(crate::specs::ClauseReading::spec_clauses))]
+    #[tactic(auto, unfolding(crate::specs::ClauseReading::spec_clauses), using(crate::proofs::ListTurns::until_stops, crate::proofs::ListTurns::until_goes_on, crate::proofs::ListTurns::until_ends))]
     fn spec_clauses(
         &self,
         cursor: &mut Cursor<'_>,
@@ -117,29 +75,20 @@ impl<
         ensures reads { Reads (ended (map promise_view)) (note_rule rules.spec_clauses self.now.room self.now.quantifiers heading last (seen cursor.old)) result (seen cursor.new) }
         ensures kept { IsKept cursor.old cursor.new }
     {
-        let none = Ended {
+        let mut found = Ended {
             tree: List::new(self.alloc),
             depth: 0,
             last,
         };
-        self.more_clauses(cursor, heading, none)
-    }
-
-    /// Behind the `requires` clauses.
-    fn case_ending(
-        &self,
-        cursor: &mut Cursor<'_>,
-        head: CaseHead<'_>,
-        demands: Ended<List<ClauseTree>>,
-    ) -> Result<Measured<CaseTree>, ParseError>
-        requires nests { Nests self.now.room (F.pre self.now.expr) (F.post self.now.expr) }
-        requires side { cursor.old.note ≡ true }
-        requires room { self.now.room < 1000 }
-        ensures reads { Reads (measured case_view) (views.case_ending self.now.room self.now.quantifiers head.entry.first (kept_word head.entry.visibility) (kept_word head.entry.heading) head.entry.word (ended (map clause_view) demands) (seen cursor.old)) result (seen cursor.new) }
-        ensures kept { IsKept cursor.old cursor.new }
-    {
-        let clauses = self.spec_clauses(cursor, head.word, demands.last)?;
-        Ok(make_case(self.alloc, head, demands, clauses)?)
+        let turns = turns();
+        for _turn in 0..turns {
+            if !may_begin_clause(heading, cursor.peek_word()) {
+                return Ok(found);
+            }
+            let next = self.spec_clause(cursor)?;
+            found = with_promise(found, next)?;
+        }
+        Err(ParseError::Fault(Fault::Long))
     }
 
     /// Behind what a case begins with, which ends with a token of this span.
@@ -157,7 +106,8 @@ impl<
         ensures kept { IsKept cursor.old cursor.new }
     {
         let demands = self.demands(cursor, last)?;
-        self.case_ending(cursor, head, demands)
+        let clauses = self.spec_clauses(cursor, head.word, demands.last)?;
+        Ok(make_case(self.alloc, head, demands, clauses)?)
     }
 
     #[tactic(auto, unfolding(crate::specs::ClauseReading::heading))]
@@ -238,14 +188,11 @@ impl<
     {
         match cursor.peek_word() {
             NoteWord::Visibility => self.seen_case(cursor),
-            NoteWord::Behavior => self.case_behind(cursor, None),
-            NoteWord::NormalBehavior => self.case_behind(cursor, None),
-            NoteWord::ExceptionalBehavior => self.case_behind(cursor, None),
-            NoteWord::Requires => self.bare_case(cursor),
-            NoteWord::Ensures => self.bare_case(cursor),
-            NoteWord::Assignable => self.bare_case(cursor),
-            NoteWord::Signals => self.bare_case(cursor),
-            NoteWord::SignalsOnly => self.bare_case(cursor),
+            NoteWord::Behavior | NoteWord::NormalBehavior | NoteWord::ExceptionalBehavior => {
+                self.case_behind(cursor, None)
+            }
+            NoteWord::Requires | NoteWord::Ensures | NoteWord::Assignable => self.bare_case(cursor),
+            NoteWord::Signals | NoteWord::SignalsOnly => self.bare_case(cursor),
             _ => Err(cursor.refuse()),
         }
     }

@@ -1,14 +1,12 @@
 //! Clauses of a case.
 
-ghost use Rattle.std.specs.Prelude.{◌≡◌, ◌<◌, true, map, Some, None};
-ghost use Rattle.jesc_jml_grammar.specs.Reading as spec;
+ghost use Rattle.std.specs.Prelude.{◌≡◌, ◌<◌, true};
 ghost use Rattle.jesc_jml_grammar.specs.Steps.{Reads};
 ghost use Rattle.jesc_jml_grammar.specs.Seen.{seen, lexeme, IsKept};
-ghost use Rattle.jesc_jml_grammar.specs.Nests.{Nests, parsed};
+ghost use Rattle.jesc_jml_grammar.specs.Nests.{Nests};
 ghost use Rattle.jesc_jml_grammar.specs.ClauseReading as rules;
-ghost use Rattle.jesc_jml_grammar.specs.ClauseSeen as views;
 ghost use Rattle.jesc_ast.specs.Trees.{clause_view, optional_view};
-ghost use Rattle.jesc_ast.specs.SpecTrees.{store_view, promise_view};
+ghost use Rattle.jesc_ast.specs.SpecTrees.{promise_view};
 ghost use Rattle.jesc_jml_grammar.specs.ClauseSeen.{note_rule, measured, ended, kept_word};
 
 use crate::cursor::{Cursor, Lexeme};
@@ -19,28 +17,13 @@ use crate::make_spec::{make_assignable, make_classes, make_clause, make_ensures,
 use crate::mark::Mark;
 use crate::note_word::NoteWord;
 use crate::part::{Ended, Measured, SignalsHead};
-use jesc_ast::{ClauseTree, Expr, SpecClause, StoreTree};
+use jesc_ast::{ClauseTree, Expr, SpecClause};
 use jesc_text::List;
 use std::alloc::Global;
 
 impl<
     F: Fn(Global, &mut Cursor<'_>, usize, usize, usize, Start<'_>) -> Result<Found, ParseError>,
 > Grammar<F> {
-    /// Behind a clause's expression.
-    fn clause_ending(
-        &self,
-        cursor: &mut Cursor<'_>,
-        word: Lexeme<'_>,
-        e: Found,
-    ) -> Result<Ended<ClauseTree>, ParseError>
-        requires side { cursor.old.note ≡ true }
-        ensures reads { Reads (ended clause_view) (views.clause_ending (lexeme word.entry) (parsed e) (seen cursor.old)) result (seen cursor.new) }
-        ensures kept { IsKept cursor.old cursor.new }
-    {
-        let last = cursor.expect_note(Mark::Semicolon)?;
-        Ok(make_clause(self.alloc, word, e, last)?)
-    }
-
     /// A word, an expression and a semicolon.
     #[tactic(auto, unfolding(crate::specs::ClauseReading::clause_of))]
     pub fn clause_of(
@@ -55,7 +38,8 @@ impl<
     {
         let x = cursor.expect_word(word)?;
         let e = self.expression(cursor)?;
-        self.clause_ending(cursor, x, e)
+        let last = cursor.expect_note(Mark::Semicolon)?;
+        Ok(make_clause(self.alloc, x, e, last)?)
     }
 
     #[tactic(auto, unfolding(crate::specs::ClauseReading::ensures_clause))]
@@ -69,20 +53,6 @@ impl<
         Ok(make_ensures(c))
     }
 
-    fn assignable_ending(
-        &self,
-        cursor: &mut Cursor<'_>,
-        word: Lexeme<'_>,
-        stores: Measured<List<StoreTree>>,
-    ) -> Result<Ended<SpecClause>, ParseError>
-        requires side { cursor.old.note ≡ true }
-        ensures reads { Reads (ended promise_view) (views.assignable_ending (lexeme word.entry) (measured (map store_view) stores) (seen cursor.old)) result (seen cursor.new) }
-        ensures kept { IsKept cursor.old cursor.new }
-    {
-        let last = cursor.expect_note(Mark::Semicolon)?;
-        Ok(make_assignable(self.alloc, word, stores, last)?)
-    }
-
     #[tactic(auto, unfolding(crate::specs::ClauseReading::assignable_clause))]
     fn assignable_clause(&self, cursor: &mut Cursor<'_>) -> Result<Ended<SpecClause>, ParseError>
         requires nests { Nests self.now.room (F.pre self.now.expr) (F.post self.now.expr) }
@@ -93,7 +63,8 @@ impl<
     {
         let x = cursor.expect_word(NoteWord::Assignable)?;
         let stores = self.stores(cursor)?;
-        self.assignable_ending(cursor, x, stores)
+        let last = cursor.expect_note(Mark::Semicolon)?;
+        Ok(make_assignable(self.alloc, x, stores, last)?)
     }
 
     /// A name that may be missing.
@@ -134,20 +105,6 @@ impl<
         })
     }
 
-    fn signals_ending(
-        &self,
-        cursor: &mut Cursor<'_>,
-        head: SignalsHead<'_>,
-        e: Measured<Option<Expr>>,
-    ) -> Result<Ended<SpecClause>, ParseError>
-        requires side { cursor.old.note ≡ true }
-        ensures reads { Reads (ended promise_view) (views.signals_ending (lexeme head.entry.word) (lexeme head.entry.bracket) (lexeme head.entry.class) (kept_word head.entry.name) (measured optional_view e) (seen cursor.old)) result (seen cursor.new) }
-        ensures kept { IsKept cursor.old cursor.new }
-    {
-        let last = cursor.expect_note(Mark::Semicolon)?;
-        Ok(make_signals(self.alloc, head, e, last)?)
-    }
-
     #[tactic(auto, unfolding(crate::specs::ClauseReading::signals_behind))]
     fn signals_behind(
         &self,
@@ -161,7 +118,8 @@ impl<
     {
         cursor.expect_note(Mark::RightParen)?;
         let e = self.optional_expression(cursor)?;
-        self.signals_ending(cursor, head, e)
+        let last = cursor.expect_note(Mark::Semicolon)?;
+        Ok(make_signals(self.alloc, head, e, last)?)
     }
 
     #[tactic(auto, unfolding(crate::specs::ClauseReading::signals_clause))]
@@ -219,23 +177,6 @@ impl<
         }
     }
 
-    fn signals_only_ending(
-        &self,
-        cursor: &mut Cursor<'_>,
-        c: SpecClause,
-    ) -> Result<Ended<SpecClause>, ParseError>
-        requires side { cursor.old.note ≡ true }
-        ensures reads { Reads (ended promise_view) (views.signals_only_ending (promise_view c) (seen cursor.old)) result (seen cursor.new) }
-        ensures kept { IsKept cursor.old cursor.new }
-    {
-        let last = cursor.expect_note(Mark::Semicolon)?;
-        Ok(Ended {
-            tree: c,
-            depth: 0,
-            last: last.span,
-        })
-    }
-
     #[tactic(auto, unfolding(crate::specs::ClauseReading::signals_only_clause))]
     fn signals_only_clause(&self, cursor: &mut Cursor<'_>) -> Result<Ended<SpecClause>, ParseError>
         requires side { cursor.old.note ≡ true }
@@ -244,7 +185,12 @@ impl<
     {
         cursor.expect_word(NoteWord::SignalsOnly)?;
         let c = self.signaled_classes(cursor)?;
-        self.signals_only_ending(cursor, c)
+        let last = cursor.expect_note(Mark::Semicolon)?;
+        Ok(Ended {
+            tree: c,
+            depth: 0,
+            last: last.span,
+        })
     }
 
     /// A clause of a case, its `requires` clauses aside.

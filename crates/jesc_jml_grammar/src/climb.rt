@@ -3,11 +3,11 @@
 ghost use Rattle.std.specs.Prelude.{◌+◌, ◌<◌, ◌≤◌, IfOk};
 ghost use Rattle.jesc_jml_grammar.specs.Reading as spec;
 ghost use Rattle.jesc_jml_grammar.specs.Steps.{Reads};
-ghost use Rattle.jesc_jml_grammar.specs.Seen.{seen, lexeme, IsKept};
+ghost use Rattle.jesc_jml_grammar.specs.Seen.{seen, IsKept};
 ghost use Rattle.jesc_jml_grammar.specs.Nests.{Nests, parsed, start_of, rule};
 
 use crate::binding::grows;
-use crate::cursor::{Cursor, Lexeme};
+use crate::cursor::Cursor;
 use crate::fault::ParseError;
 use crate::found::{Found, Start};
 use crate::grammar::Grammar;
@@ -46,51 +46,6 @@ impl<
         Err(cursor.too_deep())
     }
 
-    fn at_first(&self, cursor: &mut Cursor<'_>, least: usize) -> Result<Found, ParseError>
-        requires nests { Nests self.now.room (F.pre self.now.expr) (F.post self.now.expr) }
-        requires room { self.now.room < 1000 }
-        ensures reads { Reads parsed (rule spec.begun cursor.old.note self.now.room self.now.quantifiers least spec.at_first (seen cursor.old)) result (seen cursor.new) }
-        ensures kept { IsKept cursor.old cursor.new }
-        ensures bounded { IfOk result (λ f. f.depth ≤ self.now.room + 1) }
-    {
-        let first = self.first(cursor, least)?;
-        self.climb(cursor, least, self.room + 1, first)
-    }
-
-    fn behind_name(
-        &self,
-        cursor: &mut Cursor<'_>,
-        least: usize,
-        x: Lexeme<'_>,
-    ) -> Result<Found, ParseError>
-        requires nests { Nests self.now.room (F.pre self.now.expr) (F.post self.now.expr) }
-        requires room { self.now.room < 1000 }
-        ensures reads { Reads parsed (rule spec.begun cursor.old.note self.now.room self.now.quantifiers least (spec.behind_name (lexeme x.entry)) (seen cursor.old)) result (seen cursor.new) }
-        ensures kept { IsKept cursor.old cursor.new }
-        ensures bounded { IfOk result (λ f. f.depth ≤ self.now.room + 1) }
-    {
-        let first = self.after_name(cursor, x)?;
-        self.climb(cursor, least, self.room + 1, first)
-    }
-
-    fn behind_bracket(
-        &self,
-        cursor: &mut Cursor<'_>,
-        least: usize,
-        x: Lexeme<'_>,
-        bracket: Lexeme<'_>,
-    ) -> Result<Found, ParseError>
-        requires nests { Nests self.now.room (F.pre self.now.expr) (F.post self.now.expr) }
-        requires room { self.now.room < 1000 }
-        ensures reads { Reads parsed (rule spec.begun cursor.old.note self.now.room self.now.quantifiers least (spec.behind_bracket (lexeme x.entry) (lexeme bracket.entry)) (seen cursor.old)) result (seen cursor.new) }
-        ensures kept { IsKept cursor.old cursor.new }
-        ensures bounded { IfOk result (λ f. f.depth ≤ self.now.room + 1) }
-    {
-        let name = make_name(self.alloc, x)?;
-        let first = self.indexed_behind(cursor, name, bracket)?;
-        self.climb(cursor, least, self.room, first)
-    }
-
     /// An expression whose parts bind as tightly as `least`, from where it was read to.
     pub fn begun(
         &self,
@@ -105,9 +60,19 @@ impl<
         ensures bounded { IfOk result (λ f. f.depth ≤ self.now.room + 1) }
     {
         match start {
-            Start::AtFirst => self.at_first(cursor, least),
-            Start::BehindName(x) => self.behind_name(cursor, least, x),
-            Start::BehindBracket(x, bracket) => self.behind_bracket(cursor, least, x, bracket),
+            Start::AtFirst => {
+                let first = self.first(cursor, least)?;
+                self.climb(cursor, least, self.room + 1, first)
+            }
+            Start::BehindName(x) => {
+                let first = self.after_name(cursor, x)?;
+                self.climb(cursor, least, self.room + 1, first)
+            }
+            Start::BehindBracket(x, bracket) => {
+                let name = make_name(self.alloc, x)?;
+                let first = self.indexed_behind(cursor, name, bracket)?;
+                self.climb(cursor, least, self.room, first)
+            }
         }
     }
 }

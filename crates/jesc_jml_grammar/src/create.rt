@@ -57,27 +57,6 @@ impl<
         Ok(make_object(self.alloc, first, x, args, last)?)
     }
 
-    fn created_by(
-        &self,
-        cursor: &mut Cursor<'_>,
-        first: Lexeme<'_>,
-        x: Lexeme<'_>,
-        mark: Mark,
-    ) -> Result<Found, ParseError>
-        requires nests { Nests self.now.room (F.pre self.now.expr) (F.post self.now.expr) }
-        requires room { self.now.room < 1000 }
-        ensures reads { Reads parsed (rule spec.created_by cursor.old.note self.now.room self.now.quantifiers (lexeme first.entry) (lexeme x.entry) mark (seen cursor.old)) result (seen cursor.new) }
-        ensures kept { IsKept cursor.old cursor.new }
-        ensures bounded { IfOk result (λ f. f.depth ≤ self.now.room + 1) }
-    {
-        match mark {
-            Mark::LeftParen => self.constructed(cursor, first, x),
-            Mark::LeftBracket if self.room > 0 => self.sized(cursor, first, x),
-            Mark::LeftBracket => Err(cursor.too_deep()),
-            _ => Err(cursor.refuse()),
-        }
-    }
-
     #[tactic(auto, unfolding(crate::specs::Reading::new_of_name))]
     fn new_of_name(&self, cursor: &mut Cursor<'_>, first: Lexeme<'_>) -> Result<Found, ParseError>
         requires nests { Nests self.now.room (F.pre self.now.expr) (F.post self.now.expr) }
@@ -87,8 +66,12 @@ impl<
         ensures bounded { IfOk result (λ f. f.depth ≤ self.now.room + 1) }
     {
         let x = cursor.expect(Mark::Name)?;
-        let mark = cursor.peek();
-        self.created_by(cursor, first, x, mark)
+        match cursor.peek() {
+            Mark::LeftParen => self.constructed(cursor, first, x),
+            Mark::LeftBracket if self.room > 0 => self.sized(cursor, first, x),
+            Mark::LeftBracket => Err(cursor.too_deep()),
+            _ => Err(cursor.refuse()),
+        }
     }
 
     #[tactic(auto, unfolding(crate::specs::Reading::new_of_word))]
@@ -103,28 +86,6 @@ impl<
         self.sized(cursor, first, x)
     }
 
-    fn new_by(
-        &self,
-        cursor: &mut Cursor<'_>,
-        first: Lexeme<'_>,
-        mark: Mark,
-    ) -> Result<Found, ParseError>
-        requires nests { Nests self.now.room (F.pre self.now.expr) (F.post self.now.expr) }
-        requires room { self.now.room < 1000 }
-        ensures reads { Reads parsed (rule spec.new_by cursor.old.note self.now.room self.now.quantifiers (lexeme first.entry) mark (seen cursor.old)) result (seen cursor.new) }
-        ensures kept { IsKept cursor.old cursor.new }
-        ensures bounded { IfOk result (λ f. f.depth ≤ self.now.room + 1) }
-    {
-        match mark {
-            Mark::Name => self.new_of_name(cursor, first),
-            Mark::Int | Mark::Long | Mark::Boolean if self.room > 0 => {
-                self.new_of_word(cursor, first)
-            }
-            Mark::Int | Mark::Long | Mark::Boolean => Err(cursor.too_deep()),
-            _ => Err(cursor.refuse()),
-        }
-    }
-
     /// A new object or array.
     #[tactic(auto, unfolding(crate::specs::Reading::created))]
     pub fn created(&self, cursor: &mut Cursor<'_>) -> Result<Found, ParseError>
@@ -135,7 +96,13 @@ impl<
         ensures bounded { IfOk result (λ f. f.depth ≤ self.now.room + 1) }
     {
         let first = cursor.expect(Mark::New)?;
-        let mark = cursor.peek();
-        self.new_by(cursor, first, mark)
+        match cursor.peek() {
+            Mark::Name => self.new_of_name(cursor, first),
+            Mark::Int | Mark::Long | Mark::Boolean if self.room > 0 => {
+                self.new_of_word(cursor, first)
+            }
+            Mark::Int | Mark::Long | Mark::Boolean => Err(cursor.too_deep()),
+            _ => Err(cursor.refuse()),
+        }
     }
 }

@@ -113,34 +113,16 @@ impl<
     {
         let x = cursor.take_one()?;
         match mark {
-            Mark::Number => Ok(leaf(x.span, ExprNode::Number(text_of(self.alloc, x.text)?))),
-            Mark::True => Ok(leaf(x.span, ExprNode::Truth(true))),
-            Mark::False => Ok(leaf(x.span, ExprNode::Truth(false))),
-            Mark::Null => Ok(leaf(x.span, ExprNode::Null)),
-            Mark::This => Ok(leaf(x.span, ExprNode::This)),
-            _ => Ok(leaf(x.span, ExprNode::Result)),
-        }
-    }
-
-    fn nested_by(
-        &self,
-        cursor: &mut Cursor<'_>,
-        least: usize,
-        mark: Mark,
-    ) -> Result<Found, ParseError>
-        requires nests { Nests self.now.room (F.pre self.now.expr) (F.post self.now.expr) }
-        requires room { self.now.room < 1000 }
-        requires some { 0 < self.now.room }
-        ensures reads { Reads parsed (rule spec.nested_by cursor.old.note self.now.room self.now.quantifiers least mark (seen cursor.old)) result (seen cursor.new) }
-        ensures kept { IsKept cursor.old cursor.new }
-        ensures bounded { IfOk result (λ f. f.depth ≤ self.now.room + 1) }
-    {
-        match mark {
-            Mark::LeftParen => self.group(cursor, least),
-            Mark::Plus | Mark::Minus | Mark::Not => self.prefixed(cursor),
-            Mark::Old => self.old_value(cursor),
-            Mark::Fresh => self.fresh_value(cursor),
-            _ => Err(cursor.refuse()),
+            Mark::Number => Ok(leaf(
+                self.alloc,
+                x.span,
+                ExprNode::Number(text_of(self.alloc, x.text)?),
+            )?),
+            Mark::True => Ok(leaf(self.alloc, x.span, ExprNode::Truth(true))?),
+            Mark::False => Ok(leaf(self.alloc, x.span, ExprNode::Truth(false))?),
+            Mark::Null => Ok(leaf(self.alloc, x.span, ExprNode::Null)?),
+            Mark::This => Ok(leaf(self.alloc, x.span, ExprNode::This)?),
+            _ => Ok(leaf(self.alloc, x.span, ExprNode::Result)?),
         }
     }
 
@@ -152,52 +134,12 @@ impl<
         ensures kept { IsKept cursor.old cursor.new }
         ensures bounded { IfOk result (λ f. f.depth ≤ self.now.room + 1) }
     {
-        if self.room > 0 {
-            self.nested_by(cursor, least, mark)
-        } else {
-            Err(cursor.too_deep())
-        }
-    }
-
-    fn nested_prefix(
-        &self,
-        cursor: &mut Cursor<'_>,
-        least: usize,
-        mark: Mark,
-    ) -> Result<Found, ParseError>
-        requires nests { Nests self.now.room (F.pre self.now.expr) (F.post self.now.expr) }
-        requires room { self.now.room < 1000 }
-        ensures reads { Reads parsed (rule spec.nested_prefix cursor.old.note self.now.room self.now.quantifiers least mark (seen cursor.old)) result (seen cursor.new) }
-        ensures kept { IsKept cursor.old cursor.new }
-        ensures bounded { IfOk result (λ f. f.depth ≤ self.now.room + 1) }
-    {
-        if allows_prefix(least) {
-            self.nested(cursor, least, mark)
-        } else {
-            Err(cursor.refuse())
-        }
-    }
-
-    fn first_by(
-        &self,
-        cursor: &mut Cursor<'_>,
-        least: usize,
-        mark: Mark,
-    ) -> Result<Found, ParseError>
-        requires nests { Nests self.now.room (F.pre self.now.expr) (F.post self.now.expr) }
-        requires room { self.now.room < 1000 }
-        ensures reads { Reads parsed (rule spec.first_by cursor.old.note self.now.room self.now.quantifiers least mark (seen cursor.old)) result (seen cursor.new) }
-        ensures kept { IsKept cursor.old cursor.new }
-        ensures bounded { IfOk result (λ f. f.depth ≤ self.now.room + 1) }
-    {
         match mark {
-            Mark::Number | Mark::True | Mark::False => self.literal(cursor, mark),
-            Mark::Null | Mark::This | Mark::Result => self.literal(cursor, mark),
-            Mark::Name => self.named(cursor),
-            Mark::New => self.created(cursor),
-            Mark::Super => self.super_called(cursor),
-            Mark::LeftParen | Mark::Old | Mark::Fresh => self.nested(cursor, least, mark),
-            Mark::Plus | Mark::Minus | Mark::Not => self.nested_prefix(cursor, least, mark),
+            _ if self.room == 0 => Err(cursor.too_deep()),
+            Mark::LeftParen => self.group(cursor, least),
+            Mark::Plus | Mark::Minus | Mark::Not => self.prefixed(cursor),
+            Mark::Old => self.old_value(cursor),
+            Mark::Fresh => self.fresh_value(cursor),
             _ => Err(cursor.refuse()),
         }
     }
@@ -212,6 +154,17 @@ impl<
         ensures bounded { IfOk result (λ f. f.depth ≤ self.now.room + 1) }
     {
         let mark = cursor.peek();
-        self.first_by(cursor, least, mark)
+        match mark {
+            Mark::Number | Mark::True | Mark::False => self.literal(cursor, mark),
+            Mark::Null | Mark::This | Mark::Result => self.literal(cursor, mark),
+            Mark::Name => self.named(cursor),
+            Mark::New => self.created(cursor),
+            Mark::Super => self.super_called(cursor),
+            Mark::LeftParen | Mark::Old | Mark::Fresh => self.nested(cursor, least, mark),
+            Mark::Plus | Mark::Minus | Mark::Not if allows_prefix(least) => {
+                self.nested(cursor, least, mark)
+            }
+            _ => Err(cursor.refuse()),
+        }
     }
 }

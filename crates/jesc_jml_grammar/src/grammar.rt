@@ -11,9 +11,7 @@ ghost use Rattle.jesc_jml_grammar.specs.Nests.{Nests, parsed, listed, start_of};
 use crate::cursor::Cursor;
 use crate::fault::ParseError;
 use crate::found::{Found, FoundList, Start};
-use crate::mark::Mark;
-use crate::step::same_mark;
-use jesc_text::{List, OutOfMemory};
+use jesc_text::OutOfMemory;
 use std::alloc::Global;
 
 /// The rules of expressions over a parser of those inside.

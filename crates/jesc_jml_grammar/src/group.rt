@@ -17,28 +17,6 @@ use std::alloc::Global;
 impl<
     F: Fn(Global, &mut Cursor<'_>, usize, usize, usize, Start<'_>) -> Result<Found, ParseError>,
 > Grammar<F> {
-    fn behind_name_by(
-        &self,
-        cursor: &mut Cursor<'_>,
-        least: usize,
-        first: Lexeme<'_>,
-        x: Lexeme<'_>,
-        mark: Mark,
-    ) -> Result<Found, ParseError>
-        requires nests { Nests self.now.room (F.pre self.now.expr) (F.post self.now.expr) }
-        requires room { self.now.room < 1000 }
-        requires some { 0 < self.now.room }
-        ensures reads { Reads parsed (rule spec.behind_name_by cursor.old.note self.now.room self.now.quantifiers least (lexeme first.entry) (lexeme x.entry) mark (seen cursor.old)) result (seen cursor.new) }
-        ensures kept { IsKept cursor.old cursor.new }
-        ensures bounded { IfOk result (λ f. f.depth ≤ self.now.room + 1) }
-    {
-        match mark {
-            Mark::RightParen => self.closed_name(cursor, least, first, x),
-            Mark::LeftBracket => self.bracketed_name(cursor, least, first, x),
-            _ => self.grouped(cursor, first, Start::BehindName(x)),
-        }
-    }
-
     /// What begins with a parenthesis and a name.
     #[tactic(auto, unfolding(crate::specs::Reading::named_group))]
     fn named_group(
@@ -55,49 +33,10 @@ impl<
         ensures bounded { IfOk result (λ f. f.depth ≤ self.now.room + 1) }
     {
         let x = cursor.expect(Mark::Name)?;
-        let mark = cursor.peek();
-        self.behind_name_by(cursor, least, first, x, mark)
-    }
-
-    /// Before a word of a type: a cast.
-    fn typed_group(
-        &self,
-        cursor: &mut Cursor<'_>,
-        least: usize,
-        first: Lexeme<'_>,
-    ) -> Result<Found, ParseError>
-        requires nests { Nests self.now.room (F.pre self.now.expr) (F.post self.now.expr) }
-        requires room { self.now.room < 1000 }
-        ensures reads { Reads parsed (rule spec.typed_group cursor.old.note self.now.room self.now.quantifiers least (lexeme first.entry) (seen cursor.old)) result (seen cursor.new) }
-        ensures kept { IsKept cursor.old cursor.new }
-        ensures bounded { IfOk result (λ f. f.depth ≤ self.now.room + 1) }
-    {
-        if allows_prefix(least) {
-            self.typed_cast(cursor, first)
-        } else {
-            self.grouped(cursor, first, Start::AtFirst)
-        }
-    }
-
-    fn group_by(
-        &self,
-        cursor: &mut Cursor<'_>,
-        least: usize,
-        first: Lexeme<'_>,
-        mark: Mark,
-    ) -> Result<Found, ParseError>
-        requires nests { Nests self.now.room (F.pre self.now.expr) (F.post self.now.expr) }
-        requires room { self.now.room < 1000 }
-        requires some { 0 < self.now.room }
-        ensures reads { Reads parsed (rule spec.group_by cursor.old.note self.now.room self.now.quantifiers least (lexeme first.entry) mark (seen cursor.old)) result (seen cursor.new) }
-        ensures kept { IsKept cursor.old cursor.new }
-        ensures bounded { IfOk result (λ f. f.depth ≤ self.now.room + 1) }
-    {
-        match mark {
-            Mark::Forall | Mark::Exists => self.quantified(cursor, first),
-            Mark::Int | Mark::Long | Mark::Boolean => self.typed_group(cursor, least, first),
-            Mark::Name => self.named_group(cursor, least, first),
-            _ => self.grouped(cursor, first, Start::AtFirst),
+        match cursor.peek() {
+            Mark::RightParen => self.closed_name(cursor, least, first, x),
+            Mark::LeftBracket => self.bracketed_name(cursor, least, first, x),
+            _ => self.grouped(cursor, first, Start::BehindName(x)),
         }
     }
 
@@ -112,7 +51,13 @@ impl<
         ensures bounded { IfOk result (λ f. f.depth ≤ self.now.room + 1) }
     {
         let first = cursor.expect(Mark::LeftParen)?;
-        let mark = cursor.peek();
-        self.group_by(cursor, least, first, mark)
+        match cursor.peek() {
+            Mark::Forall | Mark::Exists => self.quantified(cursor, first),
+            Mark::Int | Mark::Long | Mark::Boolean if allows_prefix(least) => {
+                self.typed_cast(cursor, first)
+            }
+            Mark::Name => self.named_group(cursor, least, first),
+            _ => self.grouped(cursor, first, Start::AtFirst),
+        }
     }
 }

@@ -31,16 +31,6 @@ pub fn with_word(
     Ok(words)
 }
 
-/// Behind a comma a name.
-fn further_name<'a>(cursor: &mut Cursor<'a>) -> Result<Lexeme<'a>, ParseError>
-    requires side { cursor.old.note ≡ true }
-    ensures reads { Reads lexeme (views.further_name (seen cursor.old)) result (seen cursor.new) }
-    ensures kept { IsKept cursor.old cursor.new }
-{
-    cursor.expect_note(Mark::Comma)?;
-    cursor.expect_note(Mark::Name)
-}
-
 impl<
     F: Fn(Global, &mut Cursor<'_>, usize, usize, usize, Start<'_>) -> Result<Found, ParseError>,
 > Grammar<F> {
@@ -60,7 +50,8 @@ impl<
             if !cursor.is_at(Mark::Comma) {
                 return Ok(words);
             }
-            let x = further_name(cursor)?;
+            cursor.expect_note(Mark::Comma)?;
+            let x = cursor.expect_note(Mark::Name)?;
             words = with_word(self.alloc, words, x)?;
         }
         Err(ParseError::Fault(Fault::Long))

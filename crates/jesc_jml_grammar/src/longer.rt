@@ -2,7 +2,6 @@
 
 ghost use Rattle.std.specs.Prelude.{◌+◌, ◌<◌, ◌≤◌, IfOk};
 ghost use Rattle.jesc_jml_grammar.specs.Reading as spec;
-ghost use Rattle.jesc_jml_grammar.specs.Tails as tails;
 ghost use Rattle.jesc_jml_grammar.specs.Steps.{Reads};
 ghost use Rattle.jesc_jml_grammar.specs.Seen.{seen, lexeme, IsKept};
 ghost use Rattle.jesc_jml_grammar.specs.Nests.{Nests, parsed, rule};
@@ -43,46 +42,6 @@ impl<
         Ok(make_binary(self.alloc, left, op, right, binds(mark))?)
     }
 
-    /// What a choice gives where its test fails.
-    fn chosen_otherwise(
-        &self,
-        cursor: &mut Cursor<'_>,
-        test: Found,
-        question: Lexeme<'_>,
-        yes: Found,
-    ) -> Result<Found, ParseError>
-        requires nests { Nests self.now.room (F.pre self.now.expr) (F.post self.now.expr) }
-        requires room { self.now.room < 1000 }
-        requires test { test.depth ≤ self.now.room }
-        requires yes { yes.depth ≤ self.now.room }
-        ensures reads { Reads parsed (rule tails.chosen_otherwise cursor.old.note self.now.room self.now.quantifiers (parsed test) (lexeme question.entry) (parsed yes) (seen cursor.old)) result (seen cursor.new) }
-        ensures kept { IsKept cursor.old cursor.new }
-        ensures bounded { IfOk result (λ f. f.depth ≤ self.now.room + 1) }
-    {
-        let no = self.inner(cursor, self.quantifiers, 1, Start::AtFirst)?;
-        Ok(make_choose(self.alloc, test, question, yes, no)?)
-    }
-
-    /// The end of a choice, behind what it gives where its test holds.
-    fn chosen_behind(
-        &self,
-        cursor: &mut Cursor<'_>,
-        test: Found,
-        question: Lexeme<'_>,
-        yes: Found,
-    ) -> Result<Found, ParseError>
-        requires nests { Nests self.now.room (F.pre self.now.expr) (F.post self.now.expr) }
-        requires room { self.now.room < 1000 }
-        requires test { test.depth ≤ self.now.room }
-        requires yes { yes.depth ≤ self.now.room }
-        ensures reads { Reads parsed (rule tails.chosen_behind cursor.old.note self.now.room self.now.quantifiers (parsed test) (lexeme question.entry) (parsed yes) (seen cursor.old)) result (seen cursor.new) }
-        ensures kept { IsKept cursor.old cursor.new }
-        ensures bounded { IfOk result (λ f. f.depth ≤ self.now.room + 1) }
-    {
-        cursor.expect(Mark::Colon)?;
-        self.chosen_otherwise(cursor, test, question, yes)
-    }
-
     #[tactic(auto, unfolding(crate::specs::Reading::chosen))]
     fn chosen(&self, cursor: &mut Cursor<'_>, test: Found) -> Result<Found, ParseError>
         requires nests { Nests self.now.room (F.pre self.now.expr) (F.post self.now.expr) }
@@ -94,7 +53,9 @@ impl<
     {
         let question = cursor.expect(Mark::Question)?;
         let yes = self.inner(cursor, self.quantifiers, 1, Start::AtFirst)?;
-        self.chosen_behind(cursor, test, question, yes)
+        cursor.expect(Mark::Colon)?;
+        let no = self.inner(cursor, self.quantifiers, 1, Start::AtFirst)?;
+        Ok(make_choose(self.alloc, test, question, yes, no)?)
     }
 
     #[tactic(auto, unfolding(crate::specs::Reading::tested))]
@@ -108,27 +69,6 @@ impl<
         cursor.expect(Mark::InstanceOf)?;
         let ty = self.type_(cursor)?;
         Ok(make_instance_of(self.alloc, left, ty)?)
-    }
-
-    /// A call, behind the name of a member.
-    fn member_called(
-        &self,
-        cursor: &mut Cursor<'_>,
-        left: Found,
-        dot: Lexeme<'_>,
-        x: Lexeme<'_>,
-    ) -> Result<Found, ParseError>
-        requires nests { Nests self.now.room (F.pre self.now.expr) (F.post self.now.expr) }
-        requires room { self.now.room < 1000 }
-        requires left { left.depth ≤ self.now.room }
-        ensures reads { Reads parsed (rule tails.member_called cursor.old.note self.now.room self.now.quantifiers (parsed left) (lexeme dot.entry) (lexeme x.entry) (seen cursor.old)) result (seen cursor.new) }
-        ensures kept { IsKept cursor.old cursor.new }
-        ensures bounded { IfOk result (λ f. f.depth ≤ self.now.room + 1) }
-    {
-        let first = span_of(&left.expr);
-        let depth = left.depth;
-        let receiver = make_receiver(self.alloc, left, dot)?;
-        self.called(cursor, first, receiver, depth, x)
     }
 
     /// Behind the name of a member: a call of it, or the member alone.
@@ -148,7 +88,10 @@ impl<
         ensures bounded { IfOk result (λ f. f.depth ≤ self.now.room + 1) }
     {
         if same_mark(cursor.peek(), Mark::LeftParen) {
-            return self.member_called(cursor, left, dot, x);
+            let first = span_of(&left.expr);
+            let depth = left.depth;
+            let receiver = make_receiver(self.alloc, left, dot)?;
+            return self.called(cursor, first, receiver, depth, x);
         }
         Ok(make_member(self.alloc, left, dot, x)?)
     }

@@ -10,14 +10,14 @@ ghost use Rattle.jesc_jml_grammar.specs.Nests.{parsed};
 use crate::cursor::Lexeme;
 use crate::found::Found;
 use jesc_ast::{Expr, ExprNode, TypeTree, Word};
-use jesc_text::{List, OutOfMemory, Span, Text};
+use jesc_text::{Boxed, OutOfMemory, Span, Text};
 use std::alloc::Global;
 
 /// A copy of a text.
 pub fn text_of(alloc: Global, bytes: &[u8]) -> Result<Text, OutOfMemory>
     ensures { IfOk result (λ text. text ≡ bytes.now) }
 {
-    let mut text = List::new(alloc);
+    let mut text = Text::new(alloc);
     text.append(bytes)?;
     Ok(text)
 }
@@ -28,8 +28,8 @@ pub fn word_of(alloc: Global, x: Lexeme<'_>) -> Result<Word, OutOfMemory>
 {
     Ok(Word {
         text: text_of(alloc, x.text)?,
-        note: x.note,
         span: x.span,
+        note: x.note,
     })
 }
 
@@ -38,28 +38,46 @@ pub fn type_of(alloc: Global, span: Span, base: &[u8], array: bool) -> Result<Ty
     ensures { IfOk result (λ t. t ≡ type_tree span base.now array) }
 {
     Ok(TypeTree {
-        span,
         base: text_of(alloc, base)?,
+        span,
         array,
     })
 }
 
-/// An expression without parts.
-pub fn leaf(span: Span, node: ExprNode) -> Found
-    ensures expr { result.expr ≡ record { span = span; node = node } }
-    ensures depth { result.depth ≡ 1 }
-    ensures strength { result.strength ≡ 12 }
+/// An expression of these parts.
+pub fn tree(
+    alloc: Global,
+    span: Span,
+    node: ExprNode,
+    depth: usize,
+    strength: usize,
+) -> Result<Found, OutOfMemory>
+    ensures expr { IfOk result (λ f. f.expr ≡ record { span = span; node = node }) }
+    ensures depth { IfOk result (λ f. f.depth ≡ depth) }
+    ensures strength { IfOk result (λ f. f.strength ≡ strength) }
 {
-    Found {
-        expr: Expr { span, node },
-        depth: 1,
-        strength: 12,
-    }
+    Ok(Found {
+        expr: Expr {
+            span,
+            node: Boxed::new(alloc, node)?,
+        },
+        depth,
+        strength,
+    })
+}
+
+/// An expression without parts.
+pub fn leaf(alloc: Global, span: Span, node: ExprNode) -> Result<Found, OutOfMemory>
+    ensures expr { IfOk result (λ f. f.expr ≡ record { span = span; node = node }) }
+    ensures depth { IfOk result (λ f. f.depth ≡ 1) }
+    ensures strength { IfOk result (λ f. f.strength ≡ 12) }
+{
+    tree(alloc, span, node, 1, 12)
 }
 
 /// A name that is an expression by itself.
 pub fn make_name(alloc: Global, x: Lexeme<'_>) -> Result<Found, OutOfMemory>
     ensures { IfOk result (λ f. parsed f ≡ spec.leaf (trees.name x.entry.span x.entry.text.now)) }
 {
-    Ok(leaf(x.span, ExprNode::Name(text_of(alloc, x.text)?)))
+    leaf(alloc, x.span, ExprNode::Name(text_of(alloc, x.text)?))
 }

@@ -16,8 +16,8 @@ use crate::make::{text_of, word_of};
 use crate::mark::same;
 use crate::part::{Ended, FieldHead, Measured, Value};
 use crate::span::join;
-use jesc_ast::{MemberNode, MemberTree, Word};
-use jesc_text::{List, OutOfMemory, Span};
+use jesc_ast::{FieldTree, InvariantTree, MemberNode, MemberTree, RepresentsTree, Word};
+use jesc_text::{Boxed, List, OutOfMemory, Span};
 use std::alloc::Global;
 
 // ---- modifiers
@@ -75,8 +75,8 @@ fn copy_word(alloc: Global, word: &Word) -> Result<Word, OutOfMemory>
 {
     Ok(Word {
         text: text_of(alloc, word.text.as_slice())?,
-        note: word.note,
         span: word.span,
+        note: word.note,
     })
 }
 
@@ -91,17 +91,23 @@ fn first_word(alloc: Global, words: &List<Word>) -> Result<Option<Word>, OutOfMe
 
 // ---- members
 
-pub fn make_invariant(words: List<Word>, e: Found, last: Lexeme<'_>) -> Ended<MemberNode>
-    ensures { ended member_form result ≡ spec.ended (members.class_invariant words (parsed e).tree) e.depth (lexeme last.entry) }
+pub fn make_invariant(
+    alloc: Global,
+    words: List<Word>,
+    e: Found,
+    last: Lexeme<'_>,
+) -> Result<Ended<MemberNode>, OutOfMemory>
+    ensures { IfOk result (λ f. ended member_form f ≡ spec.ended (members.class_invariant words (parsed e).tree) e.depth (lexeme last.entry)) }
 {
-    Ended {
-        tree: MemberNode::Invariant {
-            modifiers: words,
-            e: e.expr,
-        },
+    let tree = InvariantTree {
+        modifiers: words,
+        e: e.expr,
+    };
+    Ok(Ended {
+        tree: MemberNode::Invariant(Boxed::new(alloc, tree)?),
         depth: e.depth,
         last: last.span,
-    }
+    })
 }
 
 pub fn make_represents(
@@ -117,13 +123,14 @@ pub fn make_represents(
     let visibility = first_word(alloc, words)?;
     let name = word_of(alloc, x)?;
     let sign = word_of(alloc, sign)?;
+    let tree = RepresentsTree {
+        visibility,
+        name,
+        sign,
+        e: e.expr,
+    };
     Ok(Ended {
-        tree: MemberNode::Represents {
-            visibility,
-            name,
-            sign,
-            e: e.expr,
-        },
+        tree: MemberNode::Represents(Boxed::new(alloc, tree)?),
         depth: e.depth,
         last: last.span,
     })
@@ -148,28 +155,33 @@ pub fn make_field(
 ) -> Result<Ended<MemberNode>, OutOfMemory>
     ensures { IfOk result (λ f. ended member_form f ≡ spec.field_of head.entry.words head.entry.ty (lexeme head.entry.name) (value_seen value) (ended (λ words. words) groups)) }
 {
+    let tree = FieldTree {
+        modifiers: head.words,
+        ty: head.ty,
+        name: word_of(alloc, head.name)?,
+        equals: value.equals,
+        value: value.e,
+        groups: groups.tree,
+    };
     Ok(Ended {
-        tree: MemberNode::SpecField {
-            modifiers: head.words,
-            ty: head.ty,
-            name: word_of(alloc, head.name)?,
-            equals: value.equals,
-            value: value.e,
-            groups: groups.tree,
-        },
+        tree: MemberNode::SpecField(Boxed::new(alloc, tree)?),
         depth: value.depth,
         last: groups.last,
     })
 }
 
-pub fn make_annotated(first: Span, form: Ended<MemberNode>) -> Measured<MemberTree>
-    ensures { measured member_view result ≡ spec.member_tree first (ended member_form form) }
+pub fn make_annotated(
+    alloc: Global,
+    first: Span,
+    form: Ended<MemberNode>,
+) -> Result<Measured<MemberTree>, OutOfMemory>
+    ensures { IfOk result (λ m. measured member_view m ≡ spec.member_tree first (ended member_form form)) }
 {
-    Measured {
+    Ok(Measured {
         tree: MemberTree {
             span: join(first, form.last),
-            node: form.tree,
+            node: Boxed::new(alloc, form.tree)?,
         },
         depth: form.depth,
-    }
+    })
 }

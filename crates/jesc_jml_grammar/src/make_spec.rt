@@ -16,8 +16,8 @@ use crate::found::Found;
 use crate::make::word_of;
 use crate::part::{CaseHead, Ended, Measured, SignalsHead};
 use crate::span::join;
-use jesc_ast::{CaseTree, ClauseTree, Expr, SpecClause, SpecTree, StoreTree, Word};
-use jesc_text::{List, OutOfMemory, Span};
+use jesc_ast::{CaseTree, ClauseTree, Expr, SignalsTree, SpecClause, SpecTree, StoreTree, Word};
+use jesc_text::{Boxed, List, OutOfMemory, Span};
 use std::alloc::Global;
 
 // ---- lists with one more
@@ -138,14 +138,15 @@ pub fn make_signals(
     let word = word_of(alloc, head.word)?;
     let class = word_of(alloc, head.class)?;
     let name = optional_word(alloc, head.name)?;
+    let tree = SignalsTree {
+        word,
+        bracket: head.bracket.span,
+        class,
+        name,
+        e: e.tree,
+    };
     Ok(Ended {
-        tree: SpecClause::Signals {
-            word,
-            bracket: head.bracket.span,
-            class,
-            name,
-            e: e.tree,
-        },
+        tree: SpecClause::Signals(Boxed::new(alloc, tree)?),
         depth: e.depth,
         last: last.span,
     })

@@ -12,8 +12,8 @@ use crate::found::Found;
 use crate::make_tree::{make_index, make_member};
 use crate::part::{Measured, Path};
 use crate::span::{join, span_of};
-use jesc_ast::{StoreNode, StoreTree};
-use jesc_text::OutOfMemory;
+use jesc_ast::{ElementStore, RangeStore, StoreNode, StoreTree};
+use jesc_text::{Boxed, OutOfMemory, Span};
 use std::alloc::Global;
 
 /// The path with its last index.
@@ -27,62 +27,89 @@ pub fn close_path(alloc: Global, path: Path<'_>) -> Result<Found, OutOfMemory>
     }
 }
 
+/// A store reference of these parts.
+pub fn store(
+    alloc: Global,
+    span: Span,
+    node: StoreNode,
+    depth: usize,
+) -> Result<Measured<StoreTree>, OutOfMemory>
+    ensures { IfOk result (λ m. m ≡ record { tree = record { span = span; node = node }; depth = depth }) }
+{
+    Ok(Measured {
+        tree: StoreTree {
+            span,
+            node: Boxed::new(alloc, node)?,
+        },
+        depth,
+    })
+}
+
 /// The store that a path alone is.
-pub fn store_of(path: Path<'_>) -> Measured<StoreTree>
-    ensures { measured store_view result ≡ spec.store_of (path_of path.entry) }
+pub fn store_of(alloc: Global, path: Path<'_>) -> Result<Measured<StoreTree>, OutOfMemory>
+    ensures { IfOk result (λ m. measured store_view m ≡ spec.store_of (path_of path.entry)) }
 {
     match path {
-        Path::Plain(e) => Measured {
-            tree: StoreTree {
-                span: span_of(&e.expr),
-                node: StoreNode::Path(e.expr),
-            },
-            depth: e.depth,
-        },
-        Path::WithIndex(e, _open, i, close) => Measured {
-            tree: StoreTree {
-                span: join(span_of(&e.expr), close.span),
-                node: StoreNode::Elem(e.expr, i.expr),
-            },
-            depth: e.depth.max(i.depth),
-        },
+        Path::Plain(e) => {
+            let span = span_of(&e.expr);
+            store(alloc, span, StoreNode::Path(e.expr), e.depth)
+        }
+        Path::WithIndex(e, _open, i, close) => {
+            let span = join(span_of(&e.expr), close.span);
+            let form = ElementStore {
+                array: e.expr,
+                index: i.expr,
+            };
+            let node = StoreNode::Elem(Boxed::new(alloc, form)?);
+            store(alloc, span, node, e.depth.max(i.depth))
+        }
     }
 }
 
-pub fn make_star(e: Found, last: Lexeme<'_>) -> Measured<StoreTree>
-    ensures { measured store_view result ≡ spec.star_of (parsed e) (lexeme last.entry) }
+pub fn make_star(
+    alloc: Global,
+    e: Found,
+    last: Lexeme<'_>,
+) -> Result<Measured<StoreTree>, OutOfMemory>
+    ensures { IfOk result (λ m. measured store_view m ≡ spec.star_of (parsed e) (lexeme last.entry)) }
 {
-    Measured {
-        tree: StoreTree {
-            span: join(span_of(&e.expr), last.span),
-            node: StoreNode::Star(e.expr),
-        },
-        depth: e.depth,
-    }
+    let span = join(span_of(&e.expr), last.span);
+    store(alloc, span, StoreNode::Star(e.expr), e.depth)
 }
 
-pub fn make_all(e: Found, last: Lexeme<'_>) -> Measured<StoreTree>
-    ensures { measured store_view result ≡ spec.all_of (parsed e) (lexeme last.entry) }
+pub fn make_all(
+    alloc: Global,
+    e: Found,
+    last: Lexeme<'_>,
+) -> Result<Measured<StoreTree>, OutOfMemory>
+    ensures { IfOk result (λ m. measured store_view m ≡ spec.all_of (parsed e) (lexeme last.entry)) }
 {
-    Measured {
-        tree: StoreTree {
-            span: join(span_of(&e.expr), last.span),
-            node: StoreNode::AllElems(e.expr),
-        },
-        depth: e.depth,
-    }
+    let span = join(span_of(&e.expr), last.span);
+    store(alloc, span, StoreNode::AllElems(e.expr), e.depth)
 }
 
-pub fn make_range(e: Found, low: Found, high: Found, last: Lexeme<'_>) -> Measured<StoreTree>
-    ensures { measured store_view result ≡ spec.range_of (parsed e) (parsed low) (parsed high) (lexeme last.entry) }
+pub fn make_range(
+    alloc: Global,
+    e: Found,
+    low: Found,
+    high: Found,
+    last: Lexeme<'_>,
+) -> Result<Measured<StoreTree>, OutOfMemory>
+    ensures { IfOk result (λ m. measured store_view m ≡ spec.range_of (parsed e) (parsed low) (parsed high) (lexeme last.entry)) }
 {
-    Measured {
-        tree: StoreTree {
-            span: join(span_of(&e.expr), last.span),
-            node: StoreNode::Range(e.expr, low.expr, high.expr),
-        },
-        depth: e.depth.max(low.depth.max(high.depth)),
-    }
+    let span = join(span_of(&e.expr), last.span);
+    let depth = e.depth.max(low.depth.max(high.depth));
+    let form = RangeStore {
+        array: e.expr,
+        first: low.expr,
+        last: high.expr,
+    };
+    store(
+        alloc,
+        span,
+        StoreNode::Range(Boxed::new(alloc, form)?),
+        depth,
+    )
 }
 
 pub fn make_member_path<'a>(

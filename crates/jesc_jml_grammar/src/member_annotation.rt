@@ -1,12 +1,10 @@
 //! Members that stand in annotations: invariants, represents clauses and specification fields.
 
-ghost use Rattle.std.specs.Prelude.{◌≡◌, ◌<◌, true, None};
-ghost use Rattle.jesc_jml_grammar.specs.Reading as spec;
+ghost use Rattle.std.specs.Prelude.{◌≡◌, true};
 ghost use Rattle.jesc_jml_grammar.specs.Steps.{Reads};
 ghost use Rattle.jesc_jml_grammar.specs.Seen.{seen, lexeme, IsKept};
-ghost use Rattle.jesc_jml_grammar.specs.Nests.{Nests, parsed};
+ghost use Rattle.jesc_jml_grammar.specs.Nests.{Nests};
 ghost use Rattle.jesc_jml_grammar.specs.ClauseReading as rules;
-ghost use Rattle.jesc_jml_grammar.specs.ClauseSeen as views;
 ghost use Rattle.jesc_ast.specs.FileTrees.{member_form, member_view};
 ghost use Rattle.jesc_jml_grammar.specs.ClauseSeen.{note_rule, measured, ended, value_seen};
 
@@ -22,27 +20,13 @@ use crate::make_form::{
 use crate::mark::Mark;
 use crate::note_word::{NoteWord, is_represents_sign};
 use crate::part::{Ended, FieldHead, Measured, Value};
-use jesc_ast::{MemberNode, MemberTree, TypeTree, Word};
+use jesc_ast::{MemberNode, MemberTree, Word};
 use jesc_text::{List, Span};
 use std::alloc::Global;
 
 impl<
     F: Fn(Global, &mut Cursor<'_>, usize, usize, usize, Start<'_>) -> Result<Found, ParseError>,
 > Grammar<F> {
-    fn invariant_ending(
-        &self,
-        cursor: &mut Cursor<'_>,
-        words: List<Word>,
-        e: Found,
-    ) -> Result<Ended<MemberNode>, ParseError>
-        requires side { cursor.old.note ≡ true }
-        ensures reads { Reads (ended member_form) (views.invariant_ending words (parsed e) (seen cursor.old)) result (seen cursor.new) }
-        ensures kept { IsKept cursor.old cursor.new }
-    {
-        let last = cursor.expect_note(Mark::Semicolon)?;
-        Ok(make_invariant(words, e, last))
-    }
-
     /// An invariant, behind its modifiers.
     #[tactic(auto, unfolding(crate::specs::ClauseReading::invariant_behind))]
     fn invariant_behind(
@@ -57,7 +41,8 @@ impl<
     {
         cursor.expect_word(NoteWord::Invariant)?;
         let e = self.expression(cursor)?;
-        self.invariant_ending(cursor, words, e)
+        let last = cursor.expect_note(Mark::Semicolon)?;
+        Ok(make_invariant(self.alloc, words, e, last)?)
     }
 
     #[tactic(auto, unfolding(crate::specs::ClauseReading::represents_sign))]
@@ -70,22 +55,6 @@ impl<
         } else {
             Err(cursor.refuse())
         }
-    }
-
-    fn represents_ending(
-        &self,
-        cursor: &mut Cursor<'_>,
-        words: &List<Word>,
-        x: Lexeme<'_>,
-        sign: Lexeme<'_>,
-        e: Found,
-    ) -> Result<Ended<MemberNode>, ParseError>
-        requires side { cursor.old.note ≡ true }
-        ensures reads { Reads (ended member_form) (views.represents_ending words.now (lexeme x.entry) (lexeme sign.entry) (parsed e) (seen cursor.old)) result (seen cursor.new) }
-        ensures kept { IsKept cursor.old cursor.new }
-    {
-        let last = cursor.expect_note(Mark::Semicolon)?;
-        Ok(make_represents(self.alloc, words, x, sign, e, last)?)
     }
 
     /// A represents clause, behind its modifiers.
@@ -104,7 +73,8 @@ impl<
         let x = cursor.expect_note(Mark::Name)?;
         let sign = self.represents_sign(cursor)?;
         let e = self.expression(cursor)?;
-        self.represents_ending(cursor, words, x, sign, e)
+        let last = cursor.expect_note(Mark::Semicolon)?;
+        Ok(make_represents(self.alloc, words, x, sign, e, last)?)
     }
 
     #[tactic(auto, unfolding(crate::specs::ClauseReading::some_value))]
@@ -137,23 +107,6 @@ impl<
         })
     }
 
-    fn groups_ending(
-        &self,
-        cursor: &mut Cursor<'_>,
-        words: List<Word>,
-    ) -> Result<Ended<List<Word>>, ParseError>
-        requires side { cursor.old.note ≡ true }
-        ensures reads { Reads (ended (λ words. words)) (views.groups_ending words (seen cursor.old)) result (seen cursor.new) }
-        ensures kept { IsKept cursor.old cursor.new }
-    {
-        let last = cursor.expect_note(Mark::Semicolon)?;
-        Ok(Ended {
-            tree: words,
-            depth: 0,
-            last: last.span,
-        })
-    }
-
     #[tactic(auto, unfolding(crate::specs::ClauseReading::some_groups))]
     fn some_groups(&self, cursor: &mut Cursor<'_>) -> Result<Ended<List<Word>>, ParseError>
         requires side { cursor.old.note ≡ true }
@@ -162,7 +115,12 @@ impl<
     {
         cursor.expect_word(NoteWord::In)?;
         let words = self.names(cursor)?;
-        self.groups_ending(cursor, words)
+        let last = cursor.expect_note(Mark::Semicolon)?;
+        Ok(Ended {
+            tree: words,
+            depth: 0,
+            last: last.span,
+        })
     }
 
     /// The data groups of a field, which may be missing, behind the field's semicolon.
@@ -186,37 +144,6 @@ impl<
         })
     }
 
-    /// Behind the semicolon of a field.
-    fn field_groups(
-        &self,
-        cursor: &mut Cursor<'_>,
-        head: FieldHead<'_>,
-        value: Value,
-        last: Lexeme<'_>,
-    ) -> Result<Ended<MemberNode>, ParseError>
-        requires side { cursor.old.note ≡ true }
-        ensures reads { Reads (ended member_form) (views.field_groups self.now.room self.now.quantifiers head.entry.words head.entry.ty (lexeme head.entry.name) (value_seen value) (lexeme last.entry) (seen cursor.old)) result (seen cursor.new) }
-        ensures kept { IsKept cursor.old cursor.new }
-    {
-        let groups = self.groups(cursor, last)?;
-        Ok(make_field(self.alloc, head, value, groups)?)
-    }
-
-    /// Behind the value of a field.
-    fn field_closing(
-        &self,
-        cursor: &mut Cursor<'_>,
-        head: FieldHead<'_>,
-        value: Value,
-    ) -> Result<Ended<MemberNode>, ParseError>
-        requires side { cursor.old.note ≡ true }
-        ensures reads { Reads (ended member_form) (views.field_closing self.now.room self.now.quantifiers head.entry.words head.entry.ty (lexeme head.entry.name) (value_seen value) (seen cursor.old)) result (seen cursor.new) }
-        ensures kept { IsKept cursor.old cursor.new }
-    {
-        let last = cursor.expect_note(Mark::Semicolon)?;
-        self.field_groups(cursor, head, value, last)
-    }
-
     /// Behind the type and the name of a field.
     #[tactic(auto, unfolding(crate::specs::ClauseReading::field_ending))]
     fn field_ending(
@@ -230,22 +157,9 @@ impl<
         ensures kept { IsKept cursor.old cursor.new }
     {
         let value = self.value(cursor)?;
-        self.field_closing(cursor, head, value)
-    }
-
-    fn field_name(
-        &self,
-        cursor: &mut Cursor<'_>,
-        words: List<Word>,
-        ty: TypeTree,
-    ) -> Result<Ended<MemberNode>, ParseError>
-        requires nests { Nests self.now.room (F.pre self.now.expr) (F.post self.now.expr) }
-        requires side { cursor.old.note ≡ true }
-        ensures reads { Reads (ended member_form) (views.field_name self.now.room self.now.quantifiers words ty (seen cursor.old)) result (seen cursor.new) }
-        ensures kept { IsKept cursor.old cursor.new }
-    {
-        let name = cursor.expect_note(Mark::Name)?;
-        self.field_ending(cursor, FieldHead { words, ty, name })
+        let last = cursor.expect_note(Mark::Semicolon)?;
+        let groups = self.groups(cursor, last)?;
+        Ok(make_field(self.alloc, head, value, groups)?)
     }
 
     /// A field, behind all its modifiers.
@@ -261,7 +175,8 @@ impl<
         ensures kept { IsKept cursor.old cursor.new }
     {
         let ty = self.type_(cursor)?;
-        self.field_name(cursor, words, ty)
+        let name = cursor.expect_note(Mark::Name)?;
+        self.field_ending(cursor, FieldHead { words, ty, name })
     }
 
     /// A specification field, behind the modifiers before `ghost` or `model`.
@@ -282,57 +197,6 @@ impl<
         self.field_behind(cursor, all)
     }
 
-    fn invariant_by(
-        &self,
-        cursor: &mut Cursor<'_>,
-        words: List<Word>,
-    ) -> Result<Ended<MemberNode>, ParseError>
-        requires nests { Nests self.now.room (F.pre self.now.expr) (F.post self.now.expr) }
-        requires side { cursor.old.note ≡ true }
-        ensures reads { Reads (ended member_form) (note_rule rules.form_by self.now.room self.now.quantifiers words NoteWord.Invariant (seen cursor.old)) result (seen cursor.new) }
-        ensures kept { IsKept cursor.old cursor.new }
-    {
-        if allow_invariant(&words) {
-            self.invariant_behind(cursor, words)
-        } else {
-            Err(cursor.refuse())
-        }
-    }
-
-    fn represents_by(
-        &self,
-        cursor: &mut Cursor<'_>,
-        words: List<Word>,
-    ) -> Result<Ended<MemberNode>, ParseError>
-        requires nests { Nests self.now.room (F.pre self.now.expr) (F.post self.now.expr) }
-        requires side { cursor.old.note ≡ true }
-        ensures reads { Reads (ended member_form) (note_rule rules.form_by self.now.room self.now.quantifiers words NoteWord.Represents (seen cursor.old)) result (seen cursor.new) }
-        ensures kept { IsKept cursor.old cursor.new }
-    {
-        if allow_represents(&words) {
-            self.represents_behind(cursor, &words)
-        } else {
-            Err(cursor.refuse())
-        }
-    }
-
-    fn field_by(
-        &self,
-        cursor: &mut Cursor<'_>,
-        words: List<Word>,
-    ) -> Result<Ended<MemberNode>, ParseError>
-        requires nests { Nests self.now.room (F.pre self.now.expr) (F.post self.now.expr) }
-        requires side { cursor.old.note ≡ true }
-        ensures reads { Reads (ended member_form) (note_rule rules.form_by self.now.room self.now.quantifiers words NoteWord.Field (seen cursor.old)) result (seen cursor.new) }
-        ensures kept { IsKept cursor.old cursor.new }
-    {
-        if allow_field(&words) {
-            self.spec_field_behind(cursor, words)
-        } else {
-            Err(cursor.refuse())
-        }
-    }
-
     #[tactic(auto, unfolding(crate::specs::ClauseReading::form_behind))]
     pub fn form_behind(
         &self,
@@ -345,9 +209,11 @@ impl<
         ensures kept { IsKept cursor.old cursor.new }
     {
         match cursor.peek_word() {
-            NoteWord::Invariant => self.invariant_by(cursor, words),
-            NoteWord::Represents => self.represents_by(cursor, words),
-            NoteWord::Field => self.field_by(cursor, words),
+            NoteWord::Invariant if allow_invariant(&words) => self.invariant_behind(cursor, words),
+            NoteWord::Represents if allow_represents(&words) => self.represents_behind(
+                cursor, &words,
+            ),
+            NoteWord::Field if allow_field(&words) => self.spec_field_behind(cursor, words),
             _ => Err(cursor.refuse()),
         }
     }
@@ -366,7 +232,7 @@ impl<
         ensures kept { IsKept cursor.old cursor.new }
     {
         let form = self.form_behind(cursor, words)?;
-        Ok(make_annotated(first, form))
+        Ok(make_annotated(self.alloc, first, form)?)
     }
 
     /// The longest invariant, represents clause or specification field.

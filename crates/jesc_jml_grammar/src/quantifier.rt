@@ -1,6 +1,6 @@
 //! Quantifiers.
 
-ghost use Rattle.std.specs.Prelude.{◌≡◌, ◌+◌, ◌-◌, ◌<◌, ◌≤◌, IfOk};
+ghost use Rattle.std.specs.Prelude.{◌≡◌, ◌+◌, ◌<◌, ◌≤◌, IfOk};
 ghost use Rattle.jesc_jml_grammar.specs.Reading as spec;
 ghost use Rattle.jesc_jml_grammar.specs.Tails as tails;
 ghost use Rattle.jesc_jml_grammar.specs.Steps.{Reads};
@@ -87,33 +87,8 @@ impl<
         }
     }
 
-    /// The upper bound, behind the names between the bounds.
-    fn bounds_behind_names(
-        &self,
-        cursor: &mut Cursor<'_>,
-        low: Found,
-        low_strict: bool,
-    ) -> Result<Bounds, ParseError>
-        requires nests { Nests self.now.room (F.pre self.now.expr) (F.post self.now.expr) }
-        requires some { 0 < self.now.quantifiers }
-        requires fits { low.depth ≤ self.now.room }
-        ensures reads { Reads bounds_of (rule tails.bounds_behind_names cursor.old.note self.now.room self.now.quantifiers (parsed low) low_strict (seen cursor.old)) result (seen cursor.new) }
-        ensures kept { IsKept cursor.old cursor.new }
-        ensures low { IfOk result (λ b. b.low.depth ≤ self.now.room) }
-        ensures high { IfOk result (λ b. b.high.depth ≤ self.now.room) }
-    {
-        let high_strict = self.bound_sign(cursor)?;
-        let high = self.inner(cursor, self.quantifiers - 1, 8, Start::AtFirst)?;
-        Ok(Bounds {
-            low,
-            low_strict,
-            high,
-            high_strict,
-        })
-    }
-
-    /// The upper bound, behind the lower one and its sign.
-    fn bounds_behind_sign(
+    /// The upper bound, behind the lower one.
+    fn upper_bound(
         &self,
         cursor: &mut Cursor<'_>,
         x: Lexeme<'_>,
@@ -123,15 +98,20 @@ impl<
         requires nests { Nests self.now.room (F.pre self.now.expr) (F.post self.now.expr) }
         requires some { 0 < self.now.quantifiers }
         requires fits { low.depth ≤ self.now.room }
-        ensures reads { Reads bounds_of (rule tails.bounds_behind_sign cursor.old.note self.now.room self.now.quantifiers (lexeme x.entry) (parsed low) low_strict (seen cursor.old)) result (seen cursor.new) }
+        ensures reads { Reads bounds_of (rule tails.upper_bound cursor.old.note self.now.room self.now.quantifiers (lexeme x.entry) (parsed low) low_strict (seen cursor.old)) result (seen cursor.new) }
         ensures kept { IsKept cursor.old cursor.new }
         ensures low { IfOk result (λ b. b.low.depth ≤ self.now.room) }
         ensures high { IfOk result (λ b. b.high.depth ≤ self.now.room) }
     {
         self.same_name(cursor, x)?;
-        cursor.expect(Mark::And)?;
-        self.same_name(cursor, x)?;
-        self.bounds_behind_names(cursor, low, low_strict)
+        let high_strict = self.bound_sign(cursor)?;
+        let high = self.inner(cursor, self.quantifiers - 1, 8, Start::AtFirst)?;
+        Ok(Bounds {
+            low,
+            low_strict,
+            high,
+            high_strict,
+        })
     }
 
     /// The bounds of a quantifier's variable.
@@ -146,34 +126,13 @@ impl<
     {
         let low = self.inner(cursor, self.quantifiers - 1, 8, Start::AtFirst)?;
         let low_strict = self.bound_sign(cursor)?;
-        self.bounds_behind_sign(cursor, x, low, low_strict)
+        self.same_name(cursor, x)?;
+        cursor.expect(Mark::And)?;
+        self.upper_bound(cursor, x, low, low_strict)
     }
 
-    /// The end of a quantifier, behind its body.
-    fn quantified_behind_body(
-        &self,
-        cursor: &mut Cursor<'_>,
-        first: Lexeme<'_>,
-        universal: bool,
-        x: Lexeme<'_>,
-        bounds: Bounds,
-        body: Found,
-    ) -> Result<Found, ParseError>
-        requires room { self.now.room < 1000 }
-        requires low { bounds.low.depth ≤ self.now.room }
-        requires high { bounds.high.depth ≤ self.now.room }
-        requires body { body.depth ≤ self.now.room }
-        ensures reads { Reads parsed (rule tails.quantified_behind_body cursor.old.note self.now.room self.now.quantifiers (lexeme first.entry) universal (lexeme x.entry) (bounds_of bounds) (parsed body) (seen cursor.old)) result (seen cursor.new) }
-        ensures kept { IsKept cursor.old cursor.new }
-        ensures bounded { IfOk result (λ f. f.depth ≤ self.now.room + 1) }
-    {
-        let last = cursor.expect(Mark::RightParen)?;
-        let span = join(first.span, last.span);
-        Ok(make_quantifier(self.alloc, span, universal, x, bounds, body)?)
-    }
-
-    /// The end of a quantifier, behind its bounds.
-    fn quantified_behind_bounds(
+    /// What a quantifier says, behind its bounds.
+    fn quantified_body(
         &self,
         cursor: &mut Cursor<'_>,
         first: Lexeme<'_>,
@@ -186,13 +145,15 @@ impl<
         requires some { 0 < self.now.quantifiers }
         requires low { bounds.low.depth ≤ self.now.room }
         requires high { bounds.high.depth ≤ self.now.room }
-        ensures reads { Reads parsed (rule tails.quantified_behind_bounds cursor.old.note self.now.room self.now.quantifiers (lexeme first.entry) universal (lexeme x.entry) (bounds_of bounds) (seen cursor.old)) result (seen cursor.new) }
+        ensures reads { Reads parsed (rule tails.quantified_body cursor.old.note self.now.room self.now.quantifiers (lexeme first.entry) universal (lexeme x.entry) (bounds_of bounds) (seen cursor.old)) result (seen cursor.new) }
         ensures kept { IsKept cursor.old cursor.new }
         ensures bounded { IfOk result (λ f. f.depth ≤ self.now.room + 1) }
     {
         cursor.expect(Mark::Semicolon)?;
         let body = self.inner(cursor, self.quantifiers - 1, 1, Start::AtFirst)?;
-        self.quantified_behind_body(cursor, first, universal, x, bounds, body)
+        let last = cursor.expect(Mark::RightParen)?;
+        let span = join(first.span, last.span);
+        Ok(make_quantifier(self.alloc, span, universal, x, bounds, body)?)
     }
 
     /// A quantifier, behind its parenthesis.
@@ -213,6 +174,6 @@ impl<
         let x = cursor.expect(Mark::Name)?;
         cursor.expect(Mark::Semicolon)?;
         let bounds = self.bounds(cursor, x)?;
-        self.quantified_behind_bounds(cursor, first, universal, x, bounds)
+        self.quantified_body(cursor, first, universal, x, bounds)
     }
 }

@@ -1,6 +1,6 @@
 //! Specifications of methods.
 
-ghost use Rattle.std.specs.Prelude.{◌≡◌, ◌<◌, true, false, map, Some};
+ghost use Rattle.std.specs.Prelude.{◌≡◌, ◌<◌, true, map};
 ghost use Rattle.jesc_jml_grammar.specs.Reading as spec;
 ghost use Rattle.jesc_jml_grammar.specs.Steps.{Reads};
 ghost use Rattle.jesc_jml_grammar.specs.Seen.{seen, lexeme, IsKept};
@@ -24,18 +24,6 @@ use std::alloc::Global;
 impl<
     F: Fn(Global, &mut Cursor<'_>, usize, usize, usize, Start<'_>) -> Result<Found, ParseError>,
 > Grammar<F> {
-    /// Behind `also` a case.
-    fn further_case(&self, cursor: &mut Cursor<'_>) -> Result<Measured<CaseTree>, ParseError>
-        requires nests { Nests self.now.room (F.pre self.now.expr) (F.post self.now.expr) }
-        requires side { cursor.old.note ≡ true }
-        requires room { self.now.room < 1000 }
-        ensures reads { Reads (measured case_view) (views.further_case self.now.room self.now.quantifiers (seen cursor.old)) result (seen cursor.new) }
-        ensures kept { IsKept cursor.old cursor.new }
-    {
-        cursor.expect_word(NoteWord::Also)?;
-        self.one_case(cursor)
-    }
-
     #[tactic(auto, using(crate::proofs::ListTurns::until_stops, crate::proofs::ListTurns::until_goes_on, crate::proofs::ListTurns::until_ends))]
     fn cases_left(
         &self,
@@ -54,7 +42,8 @@ impl<
             if !cursor.is_at_word(NoteWord::Also) {
                 return Ok(found);
             }
-            let next = self.further_case(cursor)?;
+            cursor.expect_word(NoteWord::Also)?;
+            let next = self.one_case(cursor)?;
             found = with_case(found, next)?;
         }
         Err(ParseError::Fault(Fault::Long))
@@ -109,20 +98,6 @@ impl<
         Ok(make_specification(also, cases))
     }
 
-    fn further_specification(
-        &self,
-        cursor: &mut Cursor<'_>,
-    ) -> Result<Measured<SpecTree>, ParseError>
-        requires nests { Nests self.now.room (F.pre self.now.expr) (F.post self.now.expr) }
-        requires side { cursor.old.note ≡ true }
-        requires room { self.now.room < 1000 }
-        ensures reads { Reads (measured spec_view) (views.further_specification self.now.room self.now.quantifiers (seen cursor.old)) result (seen cursor.new) }
-        ensures kept { IsKept cursor.old cursor.new }
-    {
-        cursor.expect_word(NoteWord::Also)?;
-        self.specification_of(cursor, true)
-    }
-
     /// The longest specification of a method.
     #[tactic(auto, unfolding(crate::specs::ClauseReading::specification))]
     pub fn specification(&self, cursor: &mut Cursor<'_>) -> Result<Measured<SpecTree>, ParseError>
@@ -133,25 +108,10 @@ impl<
         ensures kept { IsKept cursor.old cursor.new }
     {
         if cursor.is_at_word(NoteWord::Also) {
-            self.further_specification(cursor)
-        } else {
-            self.specification_of(cursor, false)
+            cursor.expect_word(NoteWord::Also)?;
+            return self.specification_of(cursor, true);
         }
-    }
-
-    fn behind_first_case(
-        &self,
-        cursor: &mut Cursor<'_>,
-        first: Measured<CaseTree>,
-    ) -> Result<Measured<SpecTree>, ParseError>
-        requires nests { Nests self.now.room (F.pre self.now.expr) (F.post self.now.expr) }
-        requires side { cursor.old.note ≡ true }
-        requires room { self.now.room < 1000 }
-        ensures reads { Reads (measured spec_view) (views.behind_first_case self.now.room self.now.quantifiers (measured case_view first) (seen cursor.old)) result (seen cursor.new) }
-        ensures kept { IsKept cursor.old cursor.new }
-    {
-        let cases = self.more_cases(cursor, first)?;
-        Ok(make_specification(false, cases))
+        self.specification_of(cursor, false)
     }
 
     /// The longest specification of a method, behind the visibility that it begins with.
@@ -168,6 +128,7 @@ impl<
         ensures kept { IsKept cursor.old cursor.new }
     {
         let first = self.case_behind(cursor, Some(visibility))?;
-        self.behind_first_case(cursor, first)
+        let cases = self.more_cases(cursor, first)?;
+        Ok(make_specification(false, cases))
     }
 }

@@ -14,24 +14,14 @@ use crate::cursor::{Cursor, Lexeme};
 use crate::fault::{Fault, ParseError};
 use crate::found::{Found, Start};
 use crate::grammar::{Grammar, turns};
-use crate::make::{leaf, text_of};
+use crate::make::{leaf, make_name};
 use crate::make_store::{close_path, make_all, make_member_path, make_range, make_star, store_of};
 use crate::mark::Mark;
 use crate::note_word::{NoteWord, same_word};
 use crate::part::{Measured, Path, StoreStep};
 use crate::step::same_mark;
-use jesc_ast::{ExprNode, StoreNode, StoreTree};
-use jesc_text::{List, OutOfMemory};
+use jesc_ast::{ExprNode, StoreTree};
 use std::alloc::Global;
-
-fn opens_path(mark: Mark) -> bool
-    ensures { result ≡ note_rule rules.opens_path 0 0 mark }
-{
-    match mark {
-        Mark::Name | Mark::This => true,
-        _ => false,
-    }
-}
 
 impl<
     F: Fn(Global, &mut Cursor<'_>, usize, usize, usize, Start<'_>) -> Result<Found, ParseError>,
@@ -56,7 +46,7 @@ impl<
         ensures within { IfOk result (IsWithin self.now.room) }
     {
         let x = cursor.expect_note(Mark::Name)?;
-        Ok(Path::Plain(leaf(x.span, ExprNode::Name(text_of(self.alloc, x.text)?))))
+        Ok(Path::Plain(make_name(self.alloc, x)?))
     }
 
     #[tactic(auto, unfolding(crate::specs::ClauseReading::path_this))]
@@ -68,21 +58,7 @@ impl<
         ensures within { IfOk result (IsWithin self.now.room) }
     {
         let x = cursor.expect_note(Mark::This)?;
-        Ok(Path::Plain(leaf(x.span, ExprNode::This)))
-    }
-
-    fn path_by<'a>(&self, cursor: &mut Cursor<'a>, mark: Mark) -> Result<Path<'a>, ParseError>
-        requires side { cursor.old.note ≡ true }
-        requires some { 0 < self.now.room }
-        ensures reads { Reads path_of (note_rule rules.path_by self.now.room self.now.quantifiers mark (seen cursor.old)) result (seen cursor.new) }
-        ensures kept { IsKept cursor.old cursor.new }
-        ensures within { IfOk result (IsWithin self.now.room) }
-    {
-        match mark {
-            Mark::Name => self.path_name(cursor),
-            Mark::This => self.path_this(cursor),
-            _ => Err(cursor.refuse()),
-        }
+        Ok(Path::Plain(leaf(self.alloc, x.span, ExprNode::This)?))
     }
 
     /// What a path begins with.
@@ -93,14 +69,12 @@ impl<
         ensures kept { IsKept cursor.old cursor.new }
         ensures within { IfOk result (IsWithin self.now.room) }
     {
-        let mark = cursor.peek();
-        if !opens_path(mark) {
-            return Err(cursor.refuse());
+        match cursor.peek() {
+            Mark::Name | Mark::This if self.room == 0 => Err(cursor.too_deep()),
+            Mark::Name => self.path_name(cursor),
+            Mark::This => self.path_this(cursor),
+            _ => Err(cursor.refuse()),
         }
-        if self.room == 0 {
-            return Err(cursor.too_deep());
-        }
-        self.path_by(cursor, mark)
     }
 
     #[tactic(auto, unfolding(crate::specs::ClauseReading::starred))]
@@ -111,7 +85,7 @@ impl<
         ensures within { IfOk result (IsStepWithin self.now.room) }
     {
         let last = cursor.expect_note(Mark::Times)?;
-        Ok(StoreStep::IsRead(make_star(e, last)))
+        Ok(StoreStep::IsRead(make_star(self.alloc, e, last)?))
     }
 
     #[tactic(auto, unfolding(crate::specs::ClauseReading::path_member))]
@@ -132,33 +106,6 @@ impl<
         Ok(StoreStep::GoesOn(make_member_path(self.alloc, e, dot, x)?))
     }
 
-    fn behind_dot_by<'a>(
-        &self,
-        cursor: &mut Cursor<'a>,
-        e: Found,
-        dot: Lexeme<'a>,
-        mark: Mark,
-    ) -> Result<StoreStep<'a>, ParseError>
-        requires side { cursor.old.note ≡ true }
-        requires room { self.now.room < 1000 }
-        requires fits { e.depth ≤ self.now.room }
-        ensures reads { Reads step_of (note_rule rules.behind_dot_by self.now.room self.now.quantifiers (parsed e) (lexeme dot.entry) mark (seen cursor.old)) result (seen cursor.new) }
-        ensures kept { IsKept cursor.old cursor.new }
-        ensures within { IfOk result (IsStepWithin self.now.room) }
-    {
-        match mark {
-            Mark::Times => self.starred(cursor, e),
-            Mark::Name => {
-                if e.depth == self.room {
-                    Err(cursor.too_deep())
-                } else {
-                    self.path_member(cursor, e, dot)
-                }
-            }
-            _ => Err(cursor.refuse()),
-        }
-    }
-
     #[tactic(auto, unfolding(crate::specs::ClauseReading::path_dotted))]
     fn path_dotted<'a>(
         &self,
@@ -173,8 +120,12 @@ impl<
         ensures within { IfOk result (IsStepWithin self.now.room) }
     {
         let dot = cursor.expect_note(Mark::Dot)?;
-        let mark = cursor.peek();
-        self.behind_dot_by(cursor, e, dot, mark)
+        match cursor.peek() {
+            Mark::Times => self.starred(cursor, e),
+            Mark::Name if e.depth == self.room => Err(cursor.too_deep()),
+            Mark::Name => self.path_member(cursor, e, dot),
+            _ => Err(cursor.refuse()),
+        }
     }
 
     #[tactic(auto, unfolding(crate::specs::ClauseReading::all_starred))]
@@ -190,24 +141,7 @@ impl<
     {
         cursor.expect_note(Mark::Times)?;
         let last = cursor.expect_note(Mark::RightBracket)?;
-        Ok(StoreStep::IsRead(make_all(e, last)))
-    }
-
-    /// Behind the bounds of a range.
-    fn range_ending<'a>(
-        &self,
-        cursor: &mut Cursor<'a>,
-        e: Found,
-        low: Found,
-        high: Found,
-    ) -> Result<StoreStep<'a>, ParseError>
-        requires side { cursor.old.note ≡ true }
-        ensures reads { Reads step_of (views.range_ending (parsed e) (parsed low) (parsed high) (seen cursor.old)) result (seen cursor.new) }
-        ensures kept { IsKept cursor.old cursor.new }
-        ensures within { IfOk result (IsStepWithin self.now.room) }
-    {
-        let last = cursor.expect_note(Mark::RightBracket)?;
-        Ok(StoreStep::IsRead(make_range(e, low, high, last)))
+        Ok(StoreStep::IsRead(make_all(self.alloc, e, last)?))
     }
 
     /// Behind the first bound of a range.
@@ -226,7 +160,8 @@ impl<
     {
         cursor.expect_word(NoteWord::Range)?;
         let high = self.expression(cursor)?;
-        self.range_ending(cursor, e, low, high)
+        let last = cursor.expect_note(Mark::RightBracket)?;
+        Ok(StoreStep::IsRead(make_range(self.alloc, e, low, high, last)?))
     }
 
     #[tactic(auto, unfolding(crate::specs::ClauseReading::path_index))]
@@ -348,7 +283,7 @@ impl<
         match cursor.peek() {
             Mark::Dot => self.longer_by_dot(cursor, path),
             Mark::LeftBracket => self.longer_by_bracket(cursor, path),
-            _ => Ok(StoreStep::IsRead(store_of(path))),
+            _ => Ok(StoreStep::IsRead(store_of(self.alloc, path)?)),
         }
     }
 

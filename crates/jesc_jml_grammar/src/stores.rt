@@ -15,6 +15,7 @@ use crate::fault::{Fault, ParseError};
 use crate::found::{Found, Start};
 use crate::grammar::{Grammar, turns};
 use crate::make_spec::with_store;
+use crate::make_store::store;
 use crate::mark::Mark;
 use crate::note_word::NoteWord;
 use crate::part::Measured;
@@ -25,18 +26,6 @@ use std::alloc::Global;
 impl<
     F: Fn(Global, &mut Cursor<'_>, usize, usize, usize, Start<'_>) -> Result<Found, ParseError>,
 > Grammar<F> {
-    /// Behind a comma a store reference.
-    fn further_store(&self, cursor: &mut Cursor<'_>) -> Result<Measured<StoreTree>, ParseError>
-        requires nests { Nests self.now.room (F.pre self.now.expr) (F.post self.now.expr) }
-        requires side { cursor.old.note ≡ true }
-        requires room { self.now.room < 1000 }
-        ensures reads { Reads (measured store_view) (views.further_store self.now.room self.now.quantifiers (seen cursor.old)) result (seen cursor.new) }
-        ensures kept { IsKept cursor.old cursor.new }
-    {
-        cursor.expect_note(Mark::Comma)?;
-        self.one_store(cursor)
-    }
-
     #[tactic(auto, using(crate::proofs::ListTurns::until_stops, crate::proofs::ListTurns::until_goes_on, crate::proofs::ListTurns::until_ends))]
     fn more_stores(
         &self,
@@ -55,7 +44,8 @@ impl<
             if !cursor.is_at(Mark::Comma) {
                 return Ok(found);
             }
-            let next = self.further_store(cursor)?;
+            cursor.expect_note(Mark::Comma)?;
+            let next = self.one_store(cursor)?;
             found = with_store(found, next)?;
         }
         Err(ParseError::Fault(Fault::Long))
@@ -84,29 +74,26 @@ impl<
     ) -> Result<Measured<List<StoreTree>>, OutOfMemory>
         ensures { IfOk result (λ ts. measured (map store_view) ts ≡ views.lone_store span (store_form node)) }
     {
-        let mut tree = List::new(self.alloc);
-        tree.push(StoreTree { span, node })?;
-        Ok(Measured { tree, depth: 0 })
+        let none = Measured {
+            tree: List::new(self.alloc),
+            depth: 0,
+        };
+        with_store(none, store(self.alloc, span, node, 0)?)
     }
 
-    /// `\nothing`.
+    /// `\nothing` or `\everything`.
     #[tactic(auto, unfolding(crate::specs::ClauseReading::word_store))]
-    fn no_store(&self, cursor: &mut Cursor<'_>) -> Result<Measured<List<StoreTree>>, ParseError>
-        ensures reads { Reads (measured (map store_view)) (note_rule rules.word_store self.now.room self.now.quantifiers NoteWord.Nothing (store_form StoreNode.Nothing) (seen cursor.old)) result (seen cursor.new) }
+    fn word_store(
+        &self,
+        cursor: &mut Cursor<'_>,
+        word: NoteWord,
+        node: StoreNode,
+    ) -> Result<Measured<List<StoreTree>>, ParseError>
+        ensures reads { Reads (measured (map store_view)) (note_rule rules.word_store self.now.room self.now.quantifiers word (store_form node) (seen cursor.old)) result (seen cursor.new) }
         ensures kept { IsKept cursor.old cursor.new }
     {
-        let x = cursor.expect_word(NoteWord::Nothing)?;
-        Ok(self.lone_store(x.span, StoreNode::Nothing)?)
-    }
-
-    /// `\everything`.
-    #[tactic(auto, unfolding(crate::specs::ClauseReading::word_store))]
-    fn every_store(&self, cursor: &mut Cursor<'_>) -> Result<Measured<List<StoreTree>>, ParseError>
-        ensures reads { Reads (measured (map store_view)) (note_rule rules.word_store self.now.room self.now.quantifiers NoteWord.Everything (store_form StoreNode.Everything) (seen cursor.old)) result (seen cursor.new) }
-        ensures kept { IsKept cursor.old cursor.new }
-    {
-        let x = cursor.expect_word(NoteWord::Everything)?;
-        Ok(self.lone_store(x.span, StoreNode::Everything)?)
+        let x = cursor.expect_word(word)?;
+        Ok(self.lone_store(x.span, node)?)
     }
 
     /// What an assignable clause names.
@@ -119,8 +106,10 @@ impl<
         ensures kept { IsKept cursor.old cursor.new }
     {
         match cursor.peek_word() {
-            NoteWord::Nothing => self.no_store(cursor),
-            NoteWord::Everything => self.every_store(cursor),
+            NoteWord::Nothing => self.word_store(cursor, NoteWord::Nothing, StoreNode::Nothing),
+            NoteWord::Everything => {
+                self.word_store(cursor, NoteWord::Everything, StoreNode::Everything)
+            }
             _ => self.some_stores(cursor),
         }
     }

@@ -1,11 +1,11 @@
 -- Laws of parsers: an answer depends on the lexemes up to the one behind those taken, and on none after it.
-use Rattle.std.proofs.Common.{◌≡◌, ℕ, Bool, true, false, List, [], ◌∷◌, ◌++◌, length, Option, Some, None, Ok, Err, refl, sym, ap, ◌∙◌, append_assoc, inl, inr}
+use Rattle.std.proofs.Common.{◌≡◌, ℕ, Bool, true, false, List, [], ◌∷◌, ◌++◌, length, Ok, Err, refl, sym, ap, ◌∙◌, append_assoc, inl, inr}
 use Rattle.std.specs.Prelude.{◌⊎◌, if◌then◌else◌}
 use Rattle.jesc_ast.specs.Lexemes.{Lexeme}
 use Rattle.jesc_jml_grammar.specs.declared.mark.Mark.{Mark}
 use Rattle.jesc_jml_grammar.specs.declared.fault.Fault.{Fault}
 use Rattle.jesc_jml_grammar.specs.declared.fault.Fault.TheVariants.{Unexpected, Deep}
-use Rattle.jesc_jml_grammar.specs.Steps.{Outcome, Parser, and_then, ◌>>=◌, pure, refuse, too_deep, too_long, mark_at, peek, take_one, same_mark, expect, is_name_again, peek_again}
+use Rattle.jesc_jml_grammar.specs.Steps.{Outcome, Parser, and_then, ◌>>=◌, pure, refuse, too_deep, too_long, head, mark_at, peek, take_one, same_mark, expect, is_name_again, peek_again}
 
 -- ---- how a chain came to its answer
 
@@ -31,10 +31,6 @@ ok_is {A} x y rest more e =
     (ap (λ (p : A × List Lexeme). p.0) pairs, ap (λ (p : A × List Lexeme). p.1) pairs)
 
 -- ---- the lexeme that comes next
-
-abbrev pub head : List Lexeme → Option Lexeme
-head [] = None
-head (x ∷ xs) = Some x
 
 pub head_after : (u v w : List Lexeme) → head w ≡ head v → head (u ++ w) ≡ head (u ++ v)
 head_after [] v w e = e

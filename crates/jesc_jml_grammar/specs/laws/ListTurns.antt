@@ -1,6 +1,5 @@
 -- A turn of a list's rule, beside a loop that counts up.
-use Rattle.std.proofs.Common.{◌≡◌, ℕ, suc, ◌+◌, ◌-◌, ◌<◌, ◌≤◌, Bool, true, false, List, Ok, Err, refl, ◌∙◌, arith}
-use Rattle.std.specs.Prelude.{if◌then◌else◌}
+use Rattle.std.proofs.Common.{◌≡◌, ℕ, suc, ◌+◌, ◌-◌, ◌<◌, ◌≤◌, Bool, true, false, List, Ok, Err, refl, arith}
 use Rattle.jesc_ast.specs.Lexemes.{Lexeme}
 use Rattle.jesc_jml_grammar.specs.declared.fault.Fault.TheVariants.{Long}
 use Rattle.jesc_jml_grammar.specs.Steps.{Parser, and_then}

@@ -2,12 +2,13 @@ use Rattle.std.proofs.Common.{◌≡◌, ◌-◌, map}
 use Rattle.jesc_ast.specs.SpecTrees.{promise_view}
 use Rattle.jesc_jml_grammar.specs.Reading.{turns}
 use Rattle.jesc_jml_grammar.specs.Seen.{seen, IsKept}
+use Rattle.jesc_jml_grammar.specs.ClauseFound.{none_behind}
 use Rattle.jesc_jml_grammar.specs.ClauseSeen.{more_clauses, ended}
-use Rattle.jesc_jml_grammar.proofs.grammar.Grammar.more_clauses.Given as goal
+use Rattle.jesc_jml_grammar.proofs.grammar.Grammar.spec_clauses.Given as goal
 
 abbrev pub invariant-loop-turn : goal.invariant-loop-turn
 invariant-loop-turn g l = record {
-  same : more_clauses l.self.room l.self.quantifiers l.heading turns (ended (map promise_view) l.fn.first) (seen l.fn.cursor)
+  same : more_clauses l.self.room l.self.quantifiers l.heading turns (none_behind l.fn.last) (seen l.fn.cursor)
       ≡ more_clauses l.self.room l.self.quantifiers l.heading (l.turns - l._turn) (ended (map promise_view) l.found) (seen l.cursor);
   kept : IsKept l.fn.cursor l.cursor;
   turns : l.turns ≡ turns;
