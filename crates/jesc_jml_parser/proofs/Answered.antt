@@ -1,5 +1,5 @@
 -- What the functional form of a parser of trees gives is what its call answers.
-use Rattle.std.proofs.Common.{◌≡◌, ◌⊎◌, ℕ, ◌+◌, ◌-◌, ◌≤◌, ◌<◌, true, IsTrue, List, length, drop, Result, Ok, Err, refl, sym, ap, ◌∙◌, subst, arith, inl, inr}
+use Rattle.std.proofs.Common.{◌≡◌, ◌⊎◌, ℕ, ◌+◌, ◌-◌, ◌≤◌, ◌<◌, Bool, true, IsTrue, List, length, drop, Result, Ok, Err, refl, sym, ap, ◌∙◌, subst, arith, inl, inr}
 use Rattle.std.specs.Prelude.{slice_get}
 use Rattle.std.proofs.lemmas.List.{length-drop, drop-drop}
 use Rattle.jesc_text.specs.declared.place.Place.{Place}
@@ -12,40 +12,40 @@ use Rattle.jesc_jml_grammar.specs.declared.fault.ParseError.TheVariants as error
 use Rattle.jesc_jml_parser.specs.declared.error.SyntaxError.{SyntaxError}
 use Rattle.jesc_jml_parser.specs.declared.error.SyntaxError.TheVariants as refusals
 use Rattle.jesc_jml_grammar.specs.Steps.{Outcome, Parser, mark_at}
-use Rattle.jesc_jml_grammar.specs.Refining.{Refines, ok_is}
+use Rattle.jesc_jml_grammar.specs.laws.Refining.{Refines, ok_is}
 use Rattle.jesc_jml_grammar.specs.Reading.{is_quantifier_mark, turns}
-use Rattle.jesc_jml_parser.specs.Places.{split_at}
-use Rattle.jesc_jml_grammar.specs.ClauseFound.{Sized}
+use Rattle.jesc_jml_parser.specs.laws.Places.{split_at}
 use Rattle.jesc_jml_parser.specs.LongestAnswers.{IsLongest, IsRefused, IsStuck}
-use Rattle.jesc_jml_parser.specs.Refusals.{IsErrorOf, IsFault, place_of_next, is_quantifier_next}
-use Rattle.jesc_jml_parser.specs.Parsed.{lexemes_from}
-use Rattle.jesc_jml_parser.specs.ParsedTrees.{IsFoundTree, IsTreeRefusal, IsTreeAnswer, IsTreeGiven}
-use Rattle.jesc_jml_parser.proofs.Expressed.{count, quantifier_at}
+use Rattle.jesc_jml_parser.specs.Refusals.{IsFault, place_of_next, is_quantifier_next}
+use Rattle.jesc_jml_parser.specs.ParsedTrees.{lexemes_from, IsFoundTree, IsTreeRefusal, IsTreeAnswer}
+use Rattle.jesc_jml_parser.specs.laws.Told.{IsErrorOf}
+use Rattle.jesc_jml_parser.specs.laws.Given.{IsTreeGiven}
+use Rattle.jesc_jml_parser.proofs.Seen.{count, quantifier_at}
 
--- what is known of a parser in annotations
-pub record Parses {T : Type 0} (spells : T → List Lexeme → Type 0) (fits : T → Type 0) (parse : Parser (Sized T)) : Type 0 where
+-- What is known of a parser in annotations, or in code without `note`. `tree_of` tells the tree of what it finds.
+pub record Parses {T P : Type 0} (tree_of : P → T) (note : Bool) (spells : T → List Lexeme → Type 0) (fits : T → Type 0) (parse : Parser P) : Type 0 where
   pub stable : Refines true parse parse
-  pub found : (ts rest : List Lexeme) (p : Sized T) → parse ts ≡ Ok (p, rest) → IsLongest spells fits ts p.tree (length ts - length rest)
-  pub only : (ts : List Lexeme) (t : T) (n : ℕ) → length ts < turns → IsLongest spells fits ts t n → (p : Sized T) × (parse ts ≡ Ok (p, drop n ts)) × (p.tree ≡ t)
+  pub found : (ts rest : List Lexeme) (p : P) → parse ts ≡ Ok (p, rest) → IsLongest spells fits ts (tree_of p) (length ts - length rest)
+  pub only : (ts : List Lexeme) (t : T) (n : ℕ) → length ts < turns → IsLongest spells fits ts t n → (p : P) × (parse ts ≡ Ok (p, drop n ts)) × (tree_of p ≡ t)
   pub unexpected : (ts : List Lexeme) (n : ℕ) → parse ts ≡ Err (faults.Unexpected n) → IsRefused spells ts (length ts - n)
   pub deep : (ts : List Lexeme) (n : ℕ) → parse ts ≡ Err (faults.Deep n) → IsStuck spells fits ts (length ts - n)
   pub place : (ts : List Lexeme) (n : ℕ) → parse ts ≡ Err (faults.Deep n)
-      → (is_quantifier_mark (mark_at true (drop (length ts - n) ts)) ≡ true) ⊎ (200 ≤ (length ts - n) + 2)
+      → (is_quantifier_mark (mark_at note (drop (length ts - n) ts)) ≡ true) ⊎ (200 ≤ (length ts - n) + 2)
 
 -- so many are fewer than the turns of a list
 pub fewer_turns : (n : ℕ) → n ≤ 1048576 → n < turns
 unfolding turns
 fewer_turns n few = omega arith
 
-module _ {X T : Type 0} (see : X → T) (spells : T → List Lexeme → Type 0) (fits : T → Type 0) (parse : Parser (Sized T)) (known : Parses spells fits parse)
-    (tokens : Tokens) (from : ℕ) (le : from ≤ length tokens.list) where
+module _ {X T P : Type 0} (see : X → T) {tree_of : P → T} {note : Bool} {spells : T → List Lexeme → Type 0} {fits : T → Type 0} {parse : Parser P}
+    (known : Parses tree_of note spells fits parse) (tokens : Tokens) (from : ℕ) (le : from ≤ length tokens.list) where
   abbrev ts : List Lexeme
   ts = lexemes_from tokens from
 
   abbrev Given : Result (X × ℕ) ParseError → Type 0
-  Given = IsTreeGiven see (parse ts) (length tokens.list)
+  Given = IsTreeGiven see tree_of (parse ts) (length tokens.list)
 
-  left_of : (p : Sized T) (rest : List Lexeme) → parse ts ≡ Ok (p, rest) → length rest ≤ length ts
+  left_of : (p : P) (rest : List Lexeme) → parse ts ≡ Ok (p, rest) → length rest ≤ length ts
   left_of p rest is = let a = known.stable.oks ts rest p is in (split_at ts a.taken rest (length rest) a.parts refl).2
 
   pub found_is : (a : X × ℕ) → Given (Ok a) → IsFoundTree spells fits tokens from (see a.0) a.1
@@ -54,11 +54,11 @@ module _ {X T : Type 0} (see : X → T) (spells : T → List Lexeme → Type 0) 
       let at : length ts - length rest ≡ a.1 - from = omega (arith, next, count tokens from) in
       record {
         later = omega (arith, next, few, count tokens from);
-        longest = subst (λ (t : T). IsLongest spells fits ts t (a.1 - from)) (sym tree) (subst (IsLongest spells fits ts p.tree) at (known.found ts rest p is));
+        longest = subst (λ (t : T). IsLongest spells fits ts t (a.1 - from)) (sym tree) (subst (IsLongest spells fits ts (tree_of p)) at (known.found ts rest p is));
       }
 
   only_is : length tokens.list < turns → (t : T) (next : ℕ) → IsFoundTree spells fits tokens from t next
-      → (p : Sized T) × (parse ts ≡ Ok (p, drop (next - from) ts)) × (p.tree ≡ t)
+      → (p : P) × (parse ts ≡ Ok (p, drop (next - from) ts)) × (tree_of p ≡ t)
   only_is few t next is = known.only ts t (next - from) (omega (arith, count tokens from)) is.longest
 
   -- the answer is the tree that was found
@@ -68,9 +68,9 @@ module _ {X T : Type 0} (see : X → T) (spells : T → List Lexeme → Type 0) 
       let o = only_is few t next wanted in
       let both = ok_is p o.0 rest (drop (next - from) ts) (sym is ∙ o.1) in
       let left : length rest ≡ length ts - (next - from) = ap length both.1 ∙ length-drop (next - from) ts in
-      (tree ∙ ap (λ (q : Sized T). q.tree) both.0 ∙ o.2, omega (arith, at, left, count tokens from, wanted.later, wanted.longest.within))
+      (tree ∙ ap tree_of both.0 ∙ o.2, omega (arith, at, left, count tokens from, wanted.later, wanted.longest.within))
 
-  apart : (r : Outcome (Sized T)) (f : Fault) (x : Sized T) (rest : List Lexeme) → r ≡ Err f → r ≡ Ok (x, rest) → ⊥
+  apart : (r : Outcome P) (f : Fault) (x : P) (rest : List Lexeme) → r ≡ Err f → r ≡ Ok (x, rest) → ⊥
   apart r f x rest a b = cc
 
   -- where a tree is there, the call tells nothing but that memory ran out
@@ -88,15 +88,15 @@ module _ {X T : Type 0} (see : X → T) (spells : T → List Lexeme → Type 0) 
   deep_left n is = let s = known.stable.deeps refl ts n is in (split_at ts s.taken s.rest n s.parts s.left).2
 
   deep_at : (n : ℕ) → n ≤ length ts → parse ts ≡ Err (faults.Deep n)
-      → (150 ≤ length tokens.list - n) ⊎ IsTrue (is_quantifier_next tokens (slice_get tokens.list (length tokens.list - n)))
+      → (150 ≤ length tokens.list - n - from) ⊎ IsTrue (is_quantifier_next tokens (slice_get tokens.list (length tokens.list - n)))
   deep_at n few is =
       let at : from + (length ts - n) ≡ length tokens.list - n = omega (arith, few, count tokens from) in
       elim (known.place ts n is) [
         | inl word ↦
             let there : drop (length ts - n) ts ≡ drop (length tokens.list - n) (lexemes tokens) =
             drop-drop (length ts - n) from (lexemes tokens) ∙ ap (λ (k : ℕ). drop k (lexemes tokens)) at in
-            inr (quantifier_at true tokens tokens.list (length tokens.list - n)
-            (subst (λ (z : List Lexeme). is_quantifier_mark (mark_at true z) ≡ true) there word))
+            inr (quantifier_at note tokens tokens.list (length tokens.list - n)
+            (subst (λ (z : List Lexeme). is_quantifier_mark (mark_at note z) ≡ true) there word))
         | inr late ↦ inl (omega (arith, late, few, count tokens from))
       ]
 

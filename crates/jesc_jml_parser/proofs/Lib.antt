@@ -1,4 +1,4 @@
 pub mod Spanned
-pub mod Expressed
+pub mod Seen
 pub mod Answered
-pub mod Noted
+pub mod Parsers

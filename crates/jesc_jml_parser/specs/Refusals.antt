@@ -7,9 +7,6 @@ use Rattle.jesc_lexer.specs.declared.token.Tokens.{Tokens}
 use Rattle.jesc_ast.specs.Lexemes.{lexeme_of}
 use Rattle.jesc_ast.specs.LeftOut.{is_left_out}
 use Rattle.jesc_ast.specs.Words.{is_one_of}
-use Rattle.jesc_jml_grammar.specs.declared.fault.Fault.TheVariants as faults
-use Rattle.jesc_jml_grammar.specs.declared.fault.ParseError.{ParseError}
-use Rattle.jesc_jml_grammar.specs.declared.fault.ParseError.TheVariants as errors
 use Rattle.jesc_jml_parser.specs.declared.error.SyntaxError.{SyntaxError}
 use Rattle.jesc_jml_parser.specs.declared.error.SyntaxError.TheVariants.{Token as UnexpectedToken, LeftOut, Deep, OutOfMemory}
 
@@ -42,24 +39,6 @@ abbrev pub is_quantifier_next : Tokens → Option Token → Bool
 is_quantifier_next tokens None = false
 is_quantifier_next tokens (Some t) = is_one_of (codes "\\forall" ∷ codes "\\exists" ∷ []) (slice_range tokens.text t.span.from t.span.to)
 
--- the error has this place and text, unless memory ran out
-abbrev pub IsShown : Bool → Place → List ℕ → SyntaxError → Type 0
-IsShown left_out place text (UnexpectedToken p t) = (p ≡ place) × (t ≡ text) × (left_out ≡ false)
-IsShown left_out place text (LeftOut p t) = (p ≡ place) × (t ≡ text) × (left_out ≡ true)
-IsShown left_out place text (Deep p) = ⊥
-IsShown left_out place text OutOfMemory = Unit {0}
-
--- the error tells this token, unless memory ran out
-abbrev pub Tells : Tokens → Option Token → SyntaxError → Type 0
-Tells tokens next = IsShown (is_left_out_next tokens next) (place_of_next tokens next) (text_of_next tokens next)
-
--- the error of a fault
-abbrev pub IsErrorOf : Tokens → ParseError → SyntaxError → Type 0
-IsErrorOf tokens errors.Memory error = error ≡ OutOfMemory
-IsErrorOf tokens (errors.Fault (faults.Unexpected n)) error = Tells tokens (slice_get tokens.list (length tokens.list - n)) error
-IsErrorOf tokens (errors.Fault (faults.Deep n)) error = error ≡ Deep (place_of_next tokens (slice_get tokens.list (length tokens.list - n)))
-IsErrorOf tokens (errors.Fault faults.Long) error = error ≡ OutOfMemory
-
 -- the place is that of the token at this index, where the tokens from `from` on have such a fault
 pub record IsFault (such : ℕ → Type 0) (tokens : Tokens) (from : ℕ) (place : Place) (at : ℕ) : Type 0 where
   pub later : from ≤ at
@@ -67,7 +46,7 @@ pub record IsFault (such : ℕ → Type 0) (tokens : Tokens) (from : ℕ) (place
   pub placed : place ≡ place_of_next tokens (slice_get tokens.list at)
 
 -- The tokens from `from` on are refused so, unless memory ran out: no tree goes on with the token, or none within the
--- limits does. What is too deep has many tokens before it, or is a quantifier's word.
+-- limits does. What is too deep has 150 tokens at least before it, counted from `from`, or is a quantifier's word.
 abbrev pub IsRefusal : (refused stuck : ℕ → Type 0) → Tokens → ℕ → SyntaxError → Type 0
 IsRefusal refused stuck tokens from (UnexpectedToken place text) =
     (at : ℕ) × IsFault refused tokens from place at × (text ≡ text_of_next tokens (slice_get tokens.list at))
@@ -76,5 +55,5 @@ IsRefusal refused stuck tokens from (LeftOut place word) =
     (at : ℕ) × IsFault refused tokens from place at × (word ≡ text_of_next tokens (slice_get tokens.list at))
     × (is_left_out_next tokens (slice_get tokens.list at) ≡ true)
 IsRefusal refused stuck tokens from (Deep place) =
-    (at : ℕ) × IsFault stuck tokens from place at × ((150 ≤ at) ⊎ IsTrue (is_quantifier_next tokens (slice_get tokens.list at)))
+    (at : ℕ) × IsFault stuck tokens from place at × ((150 ≤ at - from) ⊎ IsTrue (is_quantifier_next tokens (slice_get tokens.list at)))
 IsRefusal refused stuck tokens from OutOfMemory = Unit {0}

@@ -109,7 +109,7 @@ fn is_first_note_word(text: &[u8]) -> bool
 }
 
 fn is_second_note_word(text: &[u8]) -> bool
-    ensures { result ≡ is_one_of (codes "accessible" ∷ codes "callable" ∷ codes "captures" ∷ codes "forall" ∷ codes "old" ∷ codes "loop_modifies" ∷ codes "loop_assigns" ∷ codes "nullable_by_default" ∷ codes "\\sum" ∷ codes "\\product" ∷ []) text.now }
+    ensures { result ≡ is_one_of (codes "accessible" ∷ codes "callable" ∷ codes "captures" ∷ codes "forall" ∷ codes "old" ∷ codes "loop_modifies" ∷ codes "loop_assigns" ∷ codes "nullable_by_default" ∷ []) text.now }
 {
     if same(text, b"accessible") {
         return true;
@@ -132,18 +132,18 @@ fn is_second_note_word(text: &[u8]) -> bool
     if same(text, b"loop_assigns") {
         return true;
     }
-    if same(text, b"nullable_by_default") {
-        return true;
-    }
+    same(text, b"nullable_by_default")
+}
+
+fn is_first_backslash_word(text: &[u8]) -> bool
+    ensures { result ≡ is_one_of (codes "\\sum" ∷ codes "\\product" ∷ codes "\\num_of" ∷ codes "\\max" ∷ codes "\\min" ∷ codes "\\reach" ∷ []) text.now }
+{
     if same(text, b"\\sum") {
         return true;
     }
-    same(text, b"\\product")
-}
-
-fn is_third_note_word(text: &[u8]) -> bool
-    ensures { result ≡ is_one_of (codes "\\num_of" ∷ codes "\\max" ∷ codes "\\min" ∷ codes "\\reach" ∷ codes "\\type" ∷ codes "\\typeof" ∷ codes "\\bigint" ∷ codes "\\real" ∷ codes "\\such_that" ∷ codes "\\not_specified" ∷ []) text.now }
-{
+    if same(text, b"\\product") {
+        return true;
+    }
     if same(text, b"\\num_of") {
         return true;
     }
@@ -153,9 +153,12 @@ fn is_third_note_word(text: &[u8]) -> bool
     if same(text, b"\\min") {
         return true;
     }
-    if same(text, b"\\reach") {
-        return true;
-    }
+    same(text, b"\\reach")
+}
+
+fn is_second_backslash_word(text: &[u8]) -> bool
+    ensures { result ≡ is_one_of (codes "\\type" ∷ codes "\\typeof" ∷ codes "\\bigint" ∷ codes "\\real" ∷ codes "\\such_that" ∷ codes "\\not_specified" ∷ []) text.now }
+{
     if same(text, b"\\type") {
         return true;
     }
@@ -183,7 +186,13 @@ fn is_left_out_of_code(text: &[u8]) -> bool
 fn is_left_out_of_notes(text: &[u8]) -> bool
     ensures { result ≡ is_one_of spec.left_out_of_notes text.now }
 {
-    is_first_note_word(text) || is_second_note_word(text) || is_third_note_word(text)
+    is_first_note_word(text) || is_second_note_word(text)
+}
+
+fn is_left_out_with_backslash(text: &[u8]) -> bool
+    ensures { result ≡ is_one_of spec.left_out_with_backslash text.now }
+{
+    is_first_backslash_word(text) || is_second_backslash_word(text)
 }
 
 fn ends_redundantly(text: &[u8]) -> bool
@@ -193,8 +202,8 @@ fn ends_redundantly(text: &[u8]) -> bool
     same(&text[start..], b"_redundantly")
 }
 
-fn is_left_out_text(note: bool, text: &[u8]) -> bool
-    ensures { result ≡ spec.is_left_out_text note text.now }
+fn is_left_out_word(note: bool, text: &[u8]) -> bool
+    ensures { result ≡ spec.is_left_out_word note text.now }
 {
     if note {
         is_left_out_of_notes(text) || ends_redundantly(text)
@@ -203,12 +212,19 @@ fn is_left_out_text(note: bool, text: &[u8]) -> bool
     }
 }
 
+fn is_left_out_backslash(note: bool, text: &[u8]) -> bool
+    ensures { result ≡ spec.is_left_out_backslash note text.now }
+{
+    note && is_left_out_with_backslash(text)
+}
+
 /// Whether the token is a word that the language leaves out on the token's side.
 pub fn is_left_out(x: Lexeme<'_>) -> bool
     ensures { result ≡ spec.is_left_out (lexeme x.entry) }
 {
     match x.kind {
-        TokenKind::Word | TokenKind::Backslash => is_left_out_text(x.note, x.text),
+        TokenKind::Word => is_left_out_word(x.note, x.text),
+        TokenKind::Backslash => is_left_out_backslash(x.note, x.text),
         TokenKind::Number | TokenKind::Sign => false,
     }
 }

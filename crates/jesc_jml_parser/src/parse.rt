@@ -6,7 +6,9 @@ ghost use Rattle.jesc_lexer.specs.Spans.{AreSpans};
 ghost use Rattle.jesc_ast.specs.Lexemes.{Lexeme as Piece, is_within};
 ghost use Rattle.jesc_ast.specs.Trees.{Expression, view};
 ghost use Rattle.jesc_ast.specs.Expressions.{SpellsExpression};
-ghost use Rattle.jesc_jml_parser.specs.Parsed.{lexemes_from, IsFound, IsAnswer, IsExpressionRefusal, whole, IsGiven};
+ghost use Rattle.jesc_ast.specs.Depth.{IsWithinLimits};
+ghost use Rattle.jesc_jml_parser.specs.ParsedTrees.{lexemes_from, IsFoundTree, IsTreeRefusal, IsTreeAnswer};
+ghost use Rattle.jesc_jml_parser.specs.laws.Given.{whole, parsed_tree, IsTreeGiven};
 ghost use Rattle.jesc_jml_grammar.specs.Seen.{seen};
 
 use crate::error::SyntaxError;
@@ -26,7 +28,7 @@ pub const DEPTH: usize = 200;
 pub const QUANTIFIERS: usize = 3;
 
 /// The tokens from this one on, seen from code or, with `note`, from annotations.
-#[tactic(auto, using(crate::proofs::Spanned::are_left_within, crate::proofs::Expressed::seen_from))]
+#[tactic(auto, using(crate::proofs::Spanned::are_left_within, crate::proofs::Seen::seen_from))]
 pub fn cursor_at<'a>(tokens: &'a Tokens, from: u32, note: bool) -> Cursor<'a>
     requires within { IsTrue (list_all (is_within (length tokens.now.text)) tokens.now.list) }
     requires from { from ≤ length tokens.now.list }
@@ -58,7 +60,7 @@ fn read_expr(
     requires within { IsTrue (list_all (is_within (length tokens.now.text)) tokens.now.list) }
     requires few { length tokens.now.list ≤ 1048576 }
     requires from { from ≤ length tokens.now.list }
-    ensures { IsGiven (whole note (lexemes_from tokens.now from)) (length tokens.now.list) result }
+    ensures { IsTreeGiven view parsed_tree (whole note (lexemes_from tokens.now from)) (length tokens.now.list) result }
 {
     let mut cursor = cursor_at(tokens, from, note);
     match expr(alloc, &mut cursor, DEPTH, QUANTIFIERS, 1, Start::AtFirst) {
@@ -86,9 +88,9 @@ pub fn parse_expr(
     requires spans { AreSpans (length tokens.now.text) 0 tokens.now.list }
     requires short { length tokens.now.text ≤ 1048576 }
     requires from { from ≤ length tokens.now.list }
-    ensures found { IfOk result (λ a. IsFound note tokens.now from (view a.0) a.1) }
-    ensures only { (e : Expression) (next : ℕ) → IsFound note tokens.now from e next → IsAnswer e next result }
-    ensures refused { IfErr result (λ error. IsExpressionRefusal note tokens.now from error) }
+    ensures found { IfOk result (λ a. IsFoundTree (SpellsExpression note) IsWithinLimits tokens.now from (view a.0) a.1) }
+    ensures only { (e : Expression) (next : ℕ) → IsFoundTree (SpellsExpression note) IsWithinLimits tokens.now from e next → IsTreeAnswer view e next result }
+    ensures refused { IfErr result (λ error. IsTreeRefusal (SpellsExpression note) IsWithinLimits tokens.now from error) }
 {
     match read_expr(alloc, tokens, from, note) {
         Ok(found) => Ok(found),

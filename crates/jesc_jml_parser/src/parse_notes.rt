@@ -7,12 +7,12 @@ ghost use Rattle.jesc_ast.specs.Lexemes.{Lexeme as Piece, is_within};
 ghost use Rattle.jesc_ast.specs.SpecTrees.{Specification, spec_view};
 ghost use Rattle.jesc_ast.specs.FileTrees.{Member, member_view};
 ghost use Rattle.jesc_ast.specs.Specifications.{SpellsSpec};
-ghost use Rattle.jesc_ast.specs.Depth.{IsSpecWithinLimits};
+ghost use Rattle.jesc_ast.specs.Depth.{IsSpecWithinLimits, IsMemberWithinLimits};
 ghost use Rattle.jesc_jml_grammar.specs.Reading.{turns};
-ghost use Rattle.jesc_jml_parser.specs.Parsed.{lexemes_from};
-ghost use Rattle.jesc_jml_parser.specs.ClauseAnswers.{SpellsAnnotation, IsWithinLimits};
-ghost use Rattle.jesc_jml_parser.specs.ClauseWhole.{spec_parser, member_parser};
-ghost use Rattle.jesc_jml_parser.specs.ParsedTrees.{IsFoundTree, IsTreeRefusal, IsTreeAnswer, IsTreeGiven};
+ghost use Rattle.jesc_jml_parser.specs.Annotations.{SpellsAnnotation};
+ghost use Rattle.jesc_jml_parser.specs.ParsedTrees.{lexemes_from, IsFoundTree, IsTreeRefusal, IsTreeAnswer};
+ghost use Rattle.jesc_jml_parser.specs.laws.ClauseWhole.{spec_parser, member_parser};
+ghost use Rattle.jesc_jml_parser.specs.laws.Given.{sized_tree, IsTreeGiven};
 
 use crate::error::SyntaxError;
 use crate::parse::{DEPTH, QUANTIFIERS, cursor_at, number_of};
@@ -28,7 +28,7 @@ fn read_clauses(alloc: Global, tokens: &Tokens, from: u32) -> Result<(SpecTree, 
     requires within { IsTrue (list_all (is_within (length tokens.now.text)) tokens.now.list) }
     requires few { length tokens.now.list ≤ 1048576 }
     requires from { from ≤ length tokens.now.list }
-    ensures { IsTreeGiven spec_view (spec_parser turns 200 3 (lexemes_from tokens.now from)) (length tokens.now.list) result }
+    ensures { IsTreeGiven spec_view sized_tree (spec_parser turns 200 3 (lexemes_from tokens.now from)) (length tokens.now.list) result }
 {
     let mut cursor = cursor_at(tokens, from, true);
     let grammar = Grammar {
@@ -74,7 +74,7 @@ fn read_member(alloc: Global, tokens: &Tokens, from: u32) -> Result<(MemberTree,
     requires within { IsTrue (list_all (is_within (length tokens.now.text)) tokens.now.list) }
     requires few { length tokens.now.list ≤ 1048576 }
     requires from { from ≤ length tokens.now.list }
-    ensures { IsTreeGiven member_view (member_parser turns 200 3 (lexemes_from tokens.now from)) (length tokens.now.list) result }
+    ensures { IsTreeGiven member_view sized_tree (member_parser turns 200 3 (lexemes_from tokens.now from)) (length tokens.now.list) result }
 {
     let mut cursor = cursor_at(tokens, from, true);
     let grammar = Grammar {
@@ -103,9 +103,9 @@ pub fn parse_member_annotation(
     requires spans { AreSpans (length tokens.now.text) 0 tokens.now.list }
     requires short { length tokens.now.text ≤ 1048576 }
     requires from { from ≤ length tokens.now.list }
-    ensures found { IfOk result (λ a. IsFoundTree SpellsAnnotation IsWithinLimits tokens.now from (member_view a.0) a.1) }
-    ensures only { (t : Member) (next : ℕ) → IsFoundTree SpellsAnnotation IsWithinLimits tokens.now from t next → IsTreeAnswer member_view t next result }
-    ensures refused { IfErr result (λ error. IsTreeRefusal SpellsAnnotation IsWithinLimits tokens.now from error) }
+    ensures found { IfOk result (λ a. IsFoundTree SpellsAnnotation IsMemberWithinLimits tokens.now from (member_view a.0) a.1) }
+    ensures only { (t : Member) (next : ℕ) → IsFoundTree SpellsAnnotation IsMemberWithinLimits tokens.now from t next → IsTreeAnswer member_view t next result }
+    ensures refused { IfErr result (λ error. IsTreeRefusal SpellsAnnotation IsMemberWithinLimits tokens.now from error) }
 {
     match read_member(alloc, tokens, from) {
         Ok(found) => Ok(found),

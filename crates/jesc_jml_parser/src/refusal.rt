@@ -3,7 +3,8 @@
 ghost use Rattle.std.specs.Prelude.{◌≡◌, ◌≤◌, IsTrue, length, slice_get};
 ghost use Rattle.std.specs.List.{list_all};
 ghost use Rattle.jesc_ast.specs.Lexemes.{is_within, lexeme_of};
-ghost use Rattle.jesc_jml_parser.specs.Refusals.{file_of as file_of_tokens, place_of_next, Tells, IsShown, IsErrorOf};
+ghost use Rattle.jesc_jml_parser.specs.Refusals.{file_of as file_of_tokens, place_of_next};
+ghost use Rattle.jesc_jml_parser.specs.laws.Told.{Tells, IsShown, IsErrorOf};
 ghost use Rattle.jesc_jml_grammar.specs.Seen.{lexeme};
 
 use crate::error::SyntaxError;

@@ -1,4 +1,4 @@
-use Rattle.jesc_jml_parser.specs.ClauseWhole.{spec_unique}
+use Rattle.jesc_jml_parser.specs.laws.ClauseWhole.{spec_unique}
 use Rattle.jesc_jml_parser.proofs.parse_notes.one_specification.Goals as goal
 
 pub returns : goal.returns
