@@ -3,9 +3,8 @@ use Rattle.std.proofs.Common.{◌≡◌, suc, ◌-◌, ◌<◌, List, [], ◌∷
 use Rattle.jesc_text.specs.declared.place.Span.{Span}
 use Rattle.jesc_ast.specs.declared.stmt.BodyTree.{out-BodyTree, fold_out-BodyTree}
 use Rattle.jesc_ast.specs.declared.stmt.CatchTree.{CatchTree, out-CatchTree, fold_out-CatchTree}
-use Rattle.jesc_ast.specs.Trees.{Catches, more_catches, catches_of}
+use Rattle.jesc_ast.specs.Trees.{Catches, more_catches, catches_of, catch_view}
 use Rattle.jesc_ast.specs.Statements.{catches_end}
-use Rattle.jesc_java_grammar.specs.Views.{catch_view}
 
 abbrev close_of : CatchTree → Span
 close_of c = (out-BodyTree (out-CatchTree c).body).close

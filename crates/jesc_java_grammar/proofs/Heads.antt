@@ -1,7 +1,7 @@
 -- What the next lexeme is to the grammar, told by the lexeme itself.
 use Rattle.std.proofs.Common.{◌≡◌, Some, List, [], ◌∷◌, refl}
 use Rattle.jesc_ast.specs.Lexemes.{Lexeme}
-use Rattle.jesc_jml_grammar.specs.Refining.{head}
+use Rattle.jesc_jml_grammar.specs.Steps.{head}
 use Rattle.jesc_java_grammar.specs.StatementMarks.{statement_mark_at, statement_mark}
 use Rattle.jesc_java_grammar.specs.FileMarks.{member_mark_at, member_mark}
 

@@ -1,6 +1,5 @@
 pub mod Heads
 pub mod ListTurns
-pub mod StatementNodes
 pub mod CatchEnds
 pub mod Room
 pub mod Turns

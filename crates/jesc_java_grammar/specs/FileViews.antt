@@ -1,26 +1,19 @@
--- What the program's values of the rules of members stand for, and the rest of these rules.
-use Rattle.std.specs.Prelude.{ℕ, false, Option, List}
+-- What the program's values of the rules of members stand for, and the rest of a list.
+use Rattle.std.specs.Prelude.{ℕ, false, List}
 use Rattle.jesc_ast.specs.declared.word.Word.{Word}
 use Rattle.jesc_ast.specs.declared.word.TypeTree.{TypeTree}
 use Rattle.jesc_ast.specs.declared.class.ParamTree.{ParamTree}
 use Rattle.jesc_ast.specs.Lexemes.{Lexeme}
-use Rattle.jesc_ast.specs.SpecTrees.{Specification}
-use Rattle.jesc_ast.specs.FileTrees.{MemberForm}
-use Rattle.jesc_ast.specs.Members.{param_tree}
 use Rattle.jesc_jml_grammar.specs.declared.mark.Mark.TheVariants as m
-use Rattle.jesc_jml_grammar.specs.Steps.{Parser, ◌>>=◌, ◌>>◌, pure, expect}
-use Rattle.jesc_jml_grammar.specs.Reading.{word_of, type_, type_behind}
+use Rattle.jesc_jml_grammar.specs.Steps.{Parser, ◌>>◌, expect}
+use Rattle.jesc_jml_grammar.specs.Reading.{type_, type_behind}
 use Rattle.jesc_jml_grammar.specs.Nests.{rule}
-use Rattle.jesc_jml_grammar.specs.ClauseFound.{Sized, Ended, Value, with_word}
+use Rattle.jesc_jml_grammar.specs.ClauseFound.{with_word}
 use Rattle.jesc_jml_grammar.specs.ClauseLists.{until, more_separated}
-use Rattle.jesc_jml_grammar.specs.ClauseReading.{groups}
-use Rattle.jesc_jml_grammar.specs.ClauseSeen.{note_rule}
 use Rattle.jesc_java_grammar.specs.declared.make_member.Signature as code_signature
 use Rattle.jesc_java_grammar.specs.Lexing.{next_is, take_if}
 use Rattle.jesc_java_grammar.specs.FileMarks.{at_code, at_modifier, is_param_modifier}
-use Rattle.jesc_java_grammar.specs.FileReading.{Signature, with_param, field_of, method_of, constructor_of, modifier, param, method_body}
-use Rattle.jesc_java_grammar.specs.StatementReading.{constructor_body}
-use Rattle.jesc_java_grammar.specs.StatementNests.{over}
+use Rattle.jesc_java_grammar.specs.FileReading.{Signature, with_param, modifier, param}
 use Rattle.jesc_java_grammar.specs.Views.{part}
 
 abbrev pub signature_seen : code_signature.Signature → Signature
@@ -53,36 +46,3 @@ further_param room = expect false m.Comma >> part param room
 
 abbrev pub more_params : ℕ → ℕ → List ParamTree → Parser (List ParamTree)
 more_params room = more_separated (at_code m.Comma) (expect false m.Comma) (part param room) with_param
-
--- ---- the ends of rules
-
--- behind the modifiers of a parameter
-abbrev pub typed_param : ℕ → List Word → Parser ParamTree
-typed_param room ws = do
-  t ← code_type room
-  x ← expect false m.Name
-  pure (param_tree ws t (word_of x))
-
--- behind the parameters of a method and what it throws
-abbrev pub method_ending : ℕ → Sized (Option Specification) → List Word → Option TypeTree → Lexeme → Signature → Parser (Ended MemberForm)
-method_ending room spec ws result x found = do
-  b ← part method_body room
-  pure (method_of spec ws result x found b)
-
--- behind the parameters of a constructor and what it throws
-abbrev pub constructor_ending : ℕ → Sized (Option Specification) → List Word → Lexeme → Signature → Parser (Ended MemberForm)
-constructor_ending room spec ws x found = do
-  b ← over constructor_body room
-  pure (constructor_of spec ws x found b)
-
--- behind the semicolon of a field
-abbrev pub field_groups : ℕ → List Word → TypeTree → Lexeme → Value → Lexeme → Parser (Ended MemberForm)
-field_groups room ws t x v q = do
-  gs ← note_rule groups room 3 q
-  pure (field_of ws t x v gs)
-
--- behind the value of a field
-abbrev pub field_closing : ℕ → List Word → TypeTree → Lexeme → Value → Parser (Ended MemberForm)
-field_closing room ws t x v = do
-  q ← expect false m.Semicolon
-  field_groups room ws t x v q

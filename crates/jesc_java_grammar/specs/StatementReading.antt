@@ -9,7 +9,7 @@ use Rattle.jesc_ast.specs.Statements.{is_target, is_call}
 use Rattle.jesc_jml_grammar.specs.declared.mark.Mark.{Mark}
 use Rattle.jesc_jml_grammar.specs.declared.mark.Mark.TheVariants as m
 use Rattle.jesc_jml_grammar.specs.Steps.{Parser, ◌>>=◌, ◌>>◌, pure, refuse, too_deep, same_mark, peek, expect}
-use Rattle.jesc_jml_grammar.specs.Reading.{Parsed, Start, at_first, behind_name, behind_bracket, word_of, leaf, over, grows, type_, arguments, called, indexed_behind, longer_by, climb}
+use Rattle.jesc_jml_grammar.specs.Reading.{Parsed, Start, at_first, behind_name, behind_bracket, word_of, leaf, over, grows, type_, arguments, called, grouped, quantified, indexed_behind, longer_by, climb}
 use Rattle.jesc_java_grammar.specs.declared.statement_mark.StatementMark.{StatementMark}
 use Rattle.jesc_java_grammar.specs.declared.statement_mark.StatementMark.TheVariants as s
 use Rattle.jesc_java_grammar.specs.declared.statement_mark.Slot.{Slot}
@@ -45,9 +45,25 @@ module _ (limit room : ℕ) (expression : Bool → ℕ → ℕ → ℕ → Start
   unfoldable pub longer : Bool → Parsed → Parser Parsed
   longer note a = climb note limit (room - 1) (expression note (room - 1)) quantifiers 11 room a
 
-  -- What neither a target nor a call is yet has a node above it. The strength 13 leaves what goes on with it.
-  abbrev pub headed_first : Bool → Parser Parsed
-  headed_first note = expression note (room - 1) quantifiers 13 at_first
+  -- What neither a target nor a call is yet has a node above it. In parentheses a bracket behind a name is that of an
+  -- index, since no cast begins a target or a call.
+  abbrev pub headed_group_by : Bool → Lexeme → Mark → Parser Parsed
+  headed_group_by note p m.Forall = quantified note limit (room - 2) (expression note (room - 2)) quantifiers p
+  headed_group_by note p m.Exists = quantified note limit (room - 2) (expression note (room - 2)) quantifiers p
+  headed_group_by note p m.Name = expect note m.Name >>= (λ x. grouped note limit (room - 2) (expression note (room - 2)) quantifiers p (behind_name x))
+  headed_group_by note p _ = grouped note limit (room - 2) (expression note (room - 2)) quantifiers p at_first
+
+  unfoldable pub headed_group : Bool → Parser Parsed
+  headed_group note = do
+    p ← expect note m.LeftParen
+    mark ← peek note
+    headed_group_by note p mark
+
+  -- The strength 13 leaves what goes on with it.
+  unfoldable pub headed_first : Bool → Parser Parsed
+  headed_first note = do
+    mark ← peek note
+    if same_mark mark m.LeftParen then (if nat_lt 2 room then headed_group note else too_deep) else expression note (room - 1) quantifiers 13 at_first
 
   unfoldable pub headed : Bool → Parser Parsed
   headed note = do
@@ -456,15 +472,11 @@ module _ (limit room : ℕ) (expression : Bool → ℕ → ℕ → ℕ → Start
     take_if (is_sign (codes "{") false)
     body_rest no_items
 
-  unfoldable pub block_behind : Lexeme → Parser (Sized Statement)
-  block_behind p = do
-    b ← body_rest no_items
-    pure (block_of p b)
-
   unfoldable pub block_ : Parser (Sized Statement)
   block_ = do
     p ← take_if (is_sign (codes "{") false)
-    block_behind p
+    b ← body_rest no_items
+    pure (block_of p b)
 
   -- a constructor's body, whose first statement may begin with `super`
   unfoldable pub super_first : Parser (Sized Body)
@@ -530,8 +542,8 @@ module _ (limit room : ℕ) (expression : Bool → ℕ → ℕ → ℕ → Start
   loop_by cs s.For = for_ cs
   loop_by cs _ = refuse
 
-  unfoldable pub loop : Parser (Sized Statement)
-  loop = do
+  unfoldable pub loop_ : Parser (Sized Statement)
+  loop_ = do
     cs ← invariants limit room expression quantifiers
     mark ← peek_statement
     loop_by cs mark
@@ -579,7 +591,7 @@ module _ (limit room : ℕ) (expression : Bool → ℕ → ℕ → ℕ → Start
   -- ---- any statement
 
   abbrev pub looping : Slot → Parser (Sized Statement)
-  looping slot = if allows_loop slot then deeper_statement loop else refuse
+  looping slot = if allows_loop slot then deeper_statement loop_ else refuse
 
   -- where no mark of a statement stands
   abbrev pub other_by : Mark → Parser (Sized Statement)

@@ -2,10 +2,9 @@
 use Rattle.std.specs.Prelude.{ℕ, Bool, Option, Some, None, List}
 use Rattle.jesc_text.specs.declared.place.Span.{Span}
 use Rattle.jesc_ast.specs.declared.stmt.Stmt.{Stmt}
-use Rattle.jesc_ast.specs.declared.stmt.StmtNode.{StmtNode, fold-StmtNode}
-use Rattle.jesc_ast.specs.declared.stmt.CatchTree.{CatchTree, fold-CatchTree}
+use Rattle.jesc_ast.specs.declared.stmt.StmtNode.{StmtNode}
 use Rattle.jesc_ast.specs.Lexemes as ast
-use Rattle.jesc_ast.specs.Trees.{Clause, Statement, Body, Catch, OptionalStatement, stmt_node_step, body_step, catch_step, stmt_step, statement_view, optional_of, optional_view}
+use Rattle.jesc_ast.specs.Trees.{Clause, Statement, OptionalStatement, statement_node_view, statement_view, optional_of, optional_view}
 use Rattle.jesc_jml_grammar.specs.declared.cursor.Lexeme.{Lexeme}
 use Rattle.jesc_jml_grammar.specs.declared.part.Measured as code_measured
 use Rattle.jesc_jml_grammar.specs.ClauseFound.{Sized, with_more}
@@ -28,10 +27,7 @@ optional_lexeme (Some x) = Some (lexeme x)
 
 -- the statement that a node stands for, whatever its span
 abbrev pub node_view : StmtNode → Span → Statement
-node_view = fold-StmtNode (Span → Statement) Body Catch Statement stmt_node_step body_step catch_step stmt_step
-
-abbrev pub catch_view : CatchTree → Catch
-catch_view = fold-CatchTree (Span → Statement) Body Catch Statement stmt_node_step body_step catch_step stmt_step
+node_view = statement_node_view
 
 abbrev pub optional_statement : Option Stmt → OptionalStatement
 optional_statement None = optional_of None

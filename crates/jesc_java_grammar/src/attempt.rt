@@ -1,21 +1,20 @@
 //! `try`, with what it catches.
 
 ghost use Rattle.std.specs.Prelude.{◌≡◌, ◌+◌, ◌<◌, ◌≤◌, false, map, IfOk};
-ghost use Rattle.jesc_ast.specs.Trees.{statement_view, body_view};
+ghost use Rattle.jesc_ast.specs.Trees.{statement_view, catch_view};
 ghost use Rattle.jesc_jml_grammar.specs.ClauseSeen.{measured};
-ghost use Rattle.jesc_jml_grammar.specs.Seen.{seen, lexeme, IsKept};
+ghost use Rattle.jesc_jml_grammar.specs.Seen.{seen, IsKept};
 ghost use Rattle.jesc_jml_grammar.specs.Steps.{Reads};
 ghost use Rattle.jesc_java_grammar.specs.StatementReading as spec;
 ghost use Rattle.jesc_java_grammar.specs.StatementNests.{NestsStatement, over};
-ghost use Rattle.jesc_java_grammar.specs.StatementSeen as views;
-ghost use Rattle.jesc_java_grammar.specs.Views.{catch_view, catch_head};
+ghost use Rattle.jesc_java_grammar.specs.Views.{catch_head};
 
 use crate::body::Statements;
 use crate::lexing::{is_word, take_word};
 use crate::make_attempt::{CatchHead, make_attempt, make_catch, with_catch};
 use crate::statement_mark::Slot;
-use jesc_ast::{BodyTree, CatchTree, Stmt};
-use jesc_jml_grammar::cursor::{Cursor, Lexeme};
+use jesc_ast::{CatchTree, Stmt};
+use jesc_jml_grammar::cursor::Cursor;
 use jesc_jml_grammar::fault::{Fault, ParseError};
 use jesc_jml_grammar::grammar::turns;
 use jesc_jml_grammar::mark::Mark;
@@ -59,21 +58,6 @@ impl<S: Fn(Global, &mut Cursor<'_>, usize, Slot) -> Result<Measured<Stmt>, Parse
         })
     }
 
-    fn catch_body(
-        &self,
-        cursor: &mut Cursor<'_>,
-        head: CatchHead<'_>,
-    ) -> Result<Measured<CatchTree>, ParseError>
-        requires nests { NestsStatement self.now.room (S.pre self.now.statement) (S.post self.now.statement) }
-        requires side { cursor.old.note ≡ false }
-        ensures reads { Reads (measured catch_view) (views.catch_body self.now.room (catch_head head.entry) (seen cursor.old)) result (seen cursor.new) }
-        ensures kept { IsKept cursor.old cursor.new }
-        ensures bounded { IfOk result (λ f. f.depth ≤ self.now.room) }
-    {
-        let body = self.braced(cursor)?;
-        Ok(make_catch(self.alloc, head, body)?)
-    }
-
     #[tactic(auto, unfolding(crate::specs::StatementReading::catch_))]
     fn catch(&self, cursor: &mut Cursor<'_>) -> Result<Measured<CatchTree>, ParseError>
         requires nests { NestsStatement self.now.room (S.pre self.now.statement) (S.post self.now.statement) }
@@ -83,7 +67,8 @@ impl<S: Fn(Global, &mut Cursor<'_>, usize, Slot) -> Result<Measured<Stmt>, Parse
         ensures bounded { IfOk result (λ f. f.depth ≤ self.now.room) }
     {
         let head = self.catch_head(cursor)?;
-        self.catch_body(cursor, head)
+        let body = self.braced(cursor)?;
+        Ok(make_catch(self.alloc, head, body)?)
     }
 
     /// Further `catch`es, behind others.
@@ -128,41 +113,6 @@ impl<S: Fn(Global, &mut Cursor<'_>, usize, Slot) -> Result<Measured<Stmt>, Parse
         self.catches(cursor, with_catch(none, first)?)
     }
 
-    fn attempt_ending(
-        &self,
-        cursor: &mut Cursor<'_>,
-        first: Lexeme<'_>,
-        body: Measured<BodyTree>,
-    ) -> Result<Measured<Stmt>, ParseError>
-        requires nests { NestsStatement self.now.room (S.pre self.now.statement) (S.post self.now.statement) }
-        requires room { self.now.room < 1000 }
-        requires side { cursor.old.note ≡ false }
-        requires body { body.depth ≤ self.now.room }
-        ensures reads { Reads (measured statement_view) (views.attempt_ending self.now.room (lexeme first.entry) (measured body_view body) (seen cursor.old)) result (seen cursor.new) }
-        ensures kept { IsKept cursor.old cursor.new }
-        ensures bounded { IfOk result (λ f. f.depth ≤ self.now.room + 1) }
-    {
-        let catches = self.some_catches(cursor)?;
-        Ok(make_attempt(first, body, catches))
-    }
-
-    /// A `try`, behind this word.
-    fn attempt_behind(
-        &self,
-        cursor: &mut Cursor<'_>,
-        first: Lexeme<'_>,
-    ) -> Result<Measured<Stmt>, ParseError>
-        requires nests { NestsStatement self.now.room (S.pre self.now.statement) (S.post self.now.statement) }
-        requires room { self.now.room < 1000 }
-        requires side { cursor.old.note ≡ false }
-        ensures reads { Reads (measured statement_view) (views.attempt_behind self.now.room (lexeme first.entry) (seen cursor.old)) result (seen cursor.new) }
-        ensures kept { IsKept cursor.old cursor.new }
-        ensures bounded { IfOk result (λ f. f.depth ≤ self.now.room + 1) }
-    {
-        let body = self.braced(cursor)?;
-        self.attempt_ending(cursor, first, body)
-    }
-
     /// A `try`.
     #[tactic(auto, using(crate::proofs::StatementRules::attempt_rule))]
     pub fn attempt(&self, cursor: &mut Cursor<'_>) -> Result<Measured<Stmt>, ParseError>
@@ -174,6 +124,8 @@ impl<S: Fn(Global, &mut Cursor<'_>, usize, Slot) -> Result<Measured<Stmt>, Parse
         ensures bounded { IfOk result (λ f. f.depth ≤ self.now.room + 1) }
     {
         let first = take_word(cursor, b"try")?;
-        self.attempt_behind(cursor, first)
+        let body = self.braced(cursor)?;
+        let catches = self.some_catches(cursor)?;
+        Ok(make_attempt(self.alloc, first, body, catches)?)
     }
 }

@@ -11,9 +11,9 @@ ghost use Rattle.jesc_jml_grammar.specs.Steps.{Reads};
 ghost use Rattle.jesc_java_grammar.specs.StatementFound as makers;
 ghost use Rattle.jesc_java_grammar.specs.StatementReading as spec;
 ghost use Rattle.jesc_java_grammar.specs.StatementNests.{NestsStatement, statement_within, over};
-ghost use Rattle.jesc_java_grammar.specs.StatementSeen as views;
 
 use crate::lexing::{is_sign, take_sign};
+use crate::make::statement;
 use crate::part::Parts;
 use crate::statement_mark::Slot;
 use jesc_ast::{BodyTree, Stmt, StmtNode};
@@ -24,7 +24,7 @@ use jesc_jml_grammar::mark::Mark;
 use jesc_jml_grammar::part::Measured;
 use jesc_jml_grammar::span::join;
 use jesc_jml_grammar::step::same_mark;
-use jesc_text::{List, OutOfMemory};
+use jesc_text::{Boxed, List, OutOfMemory};
 use std::alloc::Global;
 
 /// The rules of statements over a parser of those inside.
@@ -60,17 +60,17 @@ fn make_body(found: Measured<List<Stmt>>, last: Lexeme<'_>) -> Measured<BodyTree
     }
 }
 
-fn make_block(first: Lexeme<'_>, body: Measured<BodyTree>) -> Measured<Stmt>
+fn make_block(
+    alloc: Global,
+    first: Lexeme<'_>,
+    body: Measured<BodyTree>,
+) -> Result<Measured<Stmt>, OutOfMemory>
     requires { body.depth ≤ 1000 }
-    ensures { measured statement_view result ≡ makers.block_of (lexeme first.entry) (measured body_view body) }
+    ensures { IfOk result (λ f. measured statement_view f ≡ makers.block_of (lexeme first.entry) (measured body_view body)) }
 {
-    Measured {
-        tree: Stmt {
-            span: join(first.span, body.tree.close),
-            node: StmtNode::Block(body.tree),
-        },
-        depth: body.depth + 1,
-    }
+    let span = join(first.span, body.tree.close);
+    let node = StmtNode::Block(Boxed::new(alloc, body.tree)?);
+    statement(alloc, span, node, body.depth + 1)
 }
 
 impl<S: Fn(Global, &mut Cursor<'_>, usize, Slot) -> Result<Measured<Stmt>, ParseError>> Statements<
@@ -169,25 +169,8 @@ impl<S: Fn(Global, &mut Cursor<'_>, usize, Slot) -> Result<Measured<Stmt>, Parse
         self.whole_rest(cursor)
     }
 
-    #[tactic(auto, unfolding(crate::specs::StatementReading::block_behind))]
-    fn block_behind(
-        &self,
-        cursor: &mut Cursor<'_>,
-        first: Lexeme<'_>,
-    ) -> Result<Measured<Stmt>, ParseError>
-        requires nests { NestsStatement self.now.room (S.pre self.now.statement) (S.post self.now.statement) }
-        requires room { self.now.room < 1000 }
-        requires side { cursor.old.note ≡ false }
-        ensures reads { Reads (measured statement_view) (over spec.block_behind self.now.room (lexeme first.entry) (seen cursor.old)) result (seen cursor.new) }
-        ensures kept { IsKept cursor.old cursor.new }
-        ensures bounded { IfOk result (λ f. f.depth ≤ self.now.room + 1) }
-    {
-        let body = self.whole_rest(cursor)?;
-        Ok(make_block(first, body))
-    }
-
     /// A block.
-    #[tactic(auto, unfolding(crate::specs::StatementReading::block_))]
+    #[tactic(auto, using(crate::proofs::StatementRules::block_rule))]
     pub fn block(&self, cursor: &mut Cursor<'_>) -> Result<Measured<Stmt>, ParseError>
         requires nests { NestsStatement self.now.room (S.pre self.now.statement) (S.post self.now.statement) }
         requires room { self.now.room < 1000 }
@@ -197,7 +180,8 @@ impl<S: Fn(Global, &mut Cursor<'_>, usize, Slot) -> Result<Measured<Stmt>, Parse
         ensures bounded { IfOk result (λ f. f.depth ≤ self.now.room + 1) }
     {
         let first = take_sign(cursor, b"{")?;
-        self.block_behind(cursor, first)
+        let body = self.whole_rest(cursor)?;
+        Ok(make_block(self.alloc, first, body)?)
     }
 
     /// The rest of a constructor's body, which begins with `super`.
@@ -223,21 +207,6 @@ impl<S: Fn(Global, &mut Cursor<'_>, usize, Slot) -> Result<Measured<Stmt>, Parse
         self.body_rest(cursor, with_statement(none, first)?)
     }
 
-    fn roomy_super_first(&self, cursor: &mut Cursor<'_>) -> Result<Measured<BodyTree>, ParseError>
-        requires nests { NestsStatement self.now.room (S.pre self.now.statement) (S.post self.now.statement) }
-        requires room { self.now.room < 1000 }
-        requires side { cursor.old.note ≡ false }
-        ensures reads { Reads (measured body_view) (views.roomy self.now.room (over spec.super_first self.now.room) (seen cursor.old)) result (seen cursor.new) }
-        ensures kept { IsKept cursor.old cursor.new }
-        ensures bounded { IfOk result (λ f. f.depth ≤ self.now.room) }
-    {
-        if self.room > 0 {
-            self.super_first(cursor)
-        } else {
-            Err(cursor.too_deep())
-        }
-    }
-
     /// The body of a constructor, whose first statement may begin with `super`.
     #[tactic(auto, unfolding(crate::specs::StatementReading::constructor_body))]
     pub fn constructor_body(
@@ -252,10 +221,12 @@ impl<S: Fn(Global, &mut Cursor<'_>, usize, Slot) -> Result<Measured<Stmt>, Parse
         ensures bounded { IfOk result (λ f. f.depth ≤ self.now.room) }
     {
         take_sign(cursor, b"{")?;
-        if same_mark(cursor.peek(), Mark::Super) {
-            self.roomy_super_first(cursor)
-        } else {
-            self.whole_rest(cursor)
+        if !same_mark(cursor.peek(), Mark::Super) {
+            return self.whole_rest(cursor);
         }
+        if self.room == 0 {
+            return Err(cursor.too_deep());
+        }
+        self.super_first(cursor)
     }
 }

@@ -23,29 +23,8 @@ use std::alloc::Global;
 impl<S: Fn(Global, &mut Cursor<'_>, usize, Slot) -> Result<Measured<Stmt>, ParseError>> Statements<
     S,
 > {
-    #[tactic(auto, unfolding(crate::specs::StatementReading::otherwise))]
-    fn otherwise(
-        &self,
-        cursor: &mut Cursor<'_>,
-        first: Lexeme<'_>,
-        test: Found,
-        then: Measured<Stmt>,
-    ) -> Result<Measured<Stmt>, ParseError>
-        requires nests { NestsStatement self.now.room (S.pre self.now.statement) (S.post self.now.statement) }
-        requires room { self.now.room < 1000 }
-        requires side { cursor.old.note ≡ false }
-        requires test { test.depth ≤ self.now.room }
-        requires then { then.depth ≤ self.now.room }
-        ensures reads { Reads (measured statement_view) (over spec.otherwise self.now.room (lexeme first.entry) (parsed test) (measured statement_view then) (seen cursor.old)) result (seen cursor.new) }
-        ensures kept { IsKept cursor.old cursor.new }
-        ensures bounded { IfOk result (λ f. f.depth ≤ self.now.room + 1) }
-    {
-        take_word(cursor, b"else")?;
-        let other = self.inner(cursor, Slot::Else)?;
-        Ok(make_branch_else(self.alloc, first, test, then, other)?)
-    }
-
-    #[tactic(auto, unfolding(crate::specs::StatementReading::branch_behind))]
+    /// The rest of an `if`, behind its first branch.
+    #[tactic(auto, unfolding(crate::specs::StatementReading::branch_behind, crate::specs::StatementReading::otherwise))]
     fn branch_behind(
         &self,
         cursor: &mut Cursor<'_>,
@@ -62,10 +41,12 @@ impl<S: Fn(Global, &mut Cursor<'_>, usize, Slot) -> Result<Measured<Stmt>, Parse
         ensures kept { IsKept cursor.old cursor.new }
         ensures bounded { IfOk result (λ f. f.depth ≤ self.now.room + 1) }
     {
-        if is_word(cursor, b"else") {
-            return self.otherwise(cursor, first, test, then);
+        if !is_word(cursor, b"else") {
+            return Ok(make_branch(self.alloc, first, test, then)?);
         }
-        Ok(make_branch(self.alloc, first, test, then)?)
+        take_word(cursor, b"else")?;
+        let other = self.inner(cursor, Slot::Else)?;
+        Ok(make_branch_else(self.alloc, first, test, then, other)?)
     }
 
     /// An `if`.

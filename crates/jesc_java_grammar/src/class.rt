@@ -1,7 +1,7 @@
 //! Classes and interfaces.
 
 ghost use Rattle.std.specs.Prelude.{◌≡◌, ◌<◌, false, map};
-ghost use Rattle.jesc_ast.specs.FileTrees.{member_view, class_view};
+ghost use Rattle.jesc_ast.specs.FileTrees.{class_view};
 ghost use Rattle.jesc_jml_grammar.specs.ClauseSeen.{measured};
 ghost use Rattle.jesc_jml_grammar.specs.Reading.{turns as all_turns};
 ghost use Rattle.jesc_jml_grammar.specs.Seen.{seen, IsKept};
@@ -15,7 +15,7 @@ ghost use Rattle.jesc_java_grammar.specs.Views.{part};
 use crate::files::Files;
 use crate::lexing::take_sign;
 use crate::make_class::{Heading, make_class, with_class};
-use jesc_ast::{ClassTree, MemberTree, Word};
+use jesc_ast::{ClassTree, Word};
 use jesc_jml_grammar::cursor::Cursor;
 use jesc_jml_grammar::fault::{Fault, ParseError};
 use jesc_jml_grammar::grammar::turns;
@@ -32,40 +32,6 @@ fn is_before_end(cursor: &Cursor<'_>) -> bool
 }
 
 impl Files {
-    /// Behind the members of a class.
-    fn class_closing(
-        &self,
-        cursor: &mut Cursor<'_>,
-        first: Span,
-        words: List<Word>,
-        heading: Heading<'_>,
-        members: Measured<List<MemberTree>>,
-    ) -> Result<Measured<ClassTree>, ParseError>
-        requires side { cursor.old.note ≡ false }
-        ensures reads { Reads (measured class_view) (views.class_closing first words (heading_view heading.entry) (measured (map member_view) members) (seen cursor.old)) result (seen cursor.new) }
-        ensures kept { IsKept cursor.old cursor.new }
-    {
-        let last = take_sign(cursor, b"}")?;
-        Ok(make_class(self.alloc, first, words, heading, members, last)?)
-    }
-
-    /// Behind the brace before the members of a class.
-    fn class_body(
-        &self,
-        cursor: &mut Cursor<'_>,
-        first: Span,
-        words: List<Word>,
-        heading: Heading<'_>,
-    ) -> Result<Measured<ClassTree>, ParseError>
-        requires room { self.now.room < 1000 }
-        requires side { cursor.old.note ≡ false }
-        ensures reads { Reads (measured class_view) (views.class_body self.now.room first words (heading_view heading.entry) (seen cursor.old)) result (seen cursor.new) }
-        ensures kept { IsKept cursor.old cursor.new }
-    {
-        let members = self.members(cursor)?;
-        self.class_closing(cursor, first, words, heading, members)
-    }
-
     /// Behind the heading, with the span of the first token.
     #[tactic(auto, unfolding(crate::specs::FileReading::class_rest))]
     fn class_rest(
@@ -81,23 +47,9 @@ impl Files {
         ensures kept { IsKept cursor.old cursor.new }
     {
         take_sign(cursor, b"{")?;
-        self.class_body(cursor, first, words, heading)
-    }
-
-    /// Behind the modifiers of a class.
-    fn class_behind(
-        &self,
-        cursor: &mut Cursor<'_>,
-        first: Span,
-        words: List<Word>,
-    ) -> Result<Measured<ClassTree>, ParseError>
-        requires room { self.now.room < 1000 }
-        requires side { cursor.old.note ≡ false }
-        ensures reads { Reads (measured class_view) (views.class_behind self.now.room first words (seen cursor.old)) result (seen cursor.new) }
-        ensures kept { IsKept cursor.old cursor.new }
-    {
-        let heading = self.heading(cursor)?;
-        self.class_rest(cursor, first, words, heading)
+        let members = self.members(cursor)?;
+        let last = take_sign(cursor, b"}")?;
+        Ok(make_class(self.alloc, first, words, heading, members, last)?)
     }
 
     /// A class or an interface.
@@ -110,7 +62,8 @@ impl Files {
     {
         let first = cursor.next_span();
         let words = self.modifiers(cursor, List::new(self.alloc))?;
-        self.class_behind(cursor, first, words)
+        let heading = self.heading(cursor)?;
+        self.class_rest(cursor, first, words, heading)
     }
 
     /// Classes up to the end, behind others.

@@ -7,7 +7,6 @@ ghost use Rattle.jesc_jml_grammar.specs.ClauseSeen.{note_rule, ended, value_seen
 ghost use Rattle.jesc_jml_grammar.specs.Seen.{seen, lexeme, IsKept};
 ghost use Rattle.jesc_jml_grammar.specs.Steps.{Reads};
 ghost use Rattle.jesc_java_grammar.specs.FileReading as spec;
-ghost use Rattle.jesc_java_grammar.specs.FileViews as views;
 ghost use Rattle.jesc_java_grammar.specs.Views.{part};
 
 use crate::files::Files;
@@ -25,13 +24,21 @@ use jesc_jml_grammar::part::{Ended, FieldHead, Value};
 use jesc_text::List;
 
 impl Files {
-    #[tactic(auto, unfolding(crate::specs::FileReading::some_value))]
-    fn some_value(&self, cursor: &mut Cursor<'_>) -> Result<Value, ParseError>
+    /// An initial value that may be missing.
+    #[tactic(auto, unfolding(crate::specs::FileReading::value, crate::specs::FileReading::some_value))]
+    fn value(&self, cursor: &mut Cursor<'_>) -> Result<Value, ParseError>
         requires room { self.now.room < 1000 }
         requires side { cursor.old.note ≡ false }
-        ensures reads { Reads value_seen (part spec.some_value self.now.room (seen cursor.old)) result (seen cursor.new) }
+        ensures reads { Reads value_seen (part spec.value self.now.room (seen cursor.old)) result (seen cursor.new) }
         ensures kept { IsKept cursor.old cursor.new }
     {
+        if !is_sign(cursor, b"=") {
+            return Ok(Value {
+                equals: None,
+                e: None,
+                depth: 0,
+            });
+        }
         let equals = take_sign(cursor, b"=")?;
         let e = Parts {
             alloc: self.alloc,
@@ -39,24 +46,6 @@ impl Files {
         }
         .whole(cursor)?;
         Ok(make_value(equals, e))
-    }
-
-    /// An initial value that may be missing.
-    #[tactic(auto, unfolding(crate::specs::FileReading::value))]
-    fn value(&self, cursor: &mut Cursor<'_>) -> Result<Value, ParseError>
-        requires room { self.now.room < 1000 }
-        requires side { cursor.old.note ≡ false }
-        ensures reads { Reads value_seen (part spec.value self.now.room (seen cursor.old)) result (seen cursor.new) }
-        ensures kept { IsKept cursor.old cursor.new }
-    {
-        if is_sign(cursor, b"=") {
-            return self.some_value(cursor);
-        }
-        Ok(Value {
-            equals: None,
-            e: None,
-            depth: 0,
-        })
     }
 
     /// The data groups of a field, which stand in an annotation and may be missing, behind the field's semicolon.
@@ -81,35 +70,6 @@ impl Files {
         found
     }
 
-    fn field_groups(
-        &self,
-        cursor: &mut Cursor<'_>,
-        head: FieldHead<'_>,
-        value: Value,
-        last: Lexeme<'_>,
-    ) -> Result<Ended<MemberNode>, ParseError>
-        requires side { cursor.old.note ≡ false }
-        ensures reads { Reads (ended member_form) (views.field_groups self.now.room head.entry.words head.entry.ty (lexeme head.entry.name) (value_seen value) (lexeme last.entry) (seen cursor.old)) result (seen cursor.new) }
-        ensures kept { IsKept cursor.old cursor.new }
-    {
-        let groups = self.groups(cursor, last)?;
-        Ok(make_field(self.alloc, head, value, groups)?)
-    }
-
-    fn field_closing(
-        &self,
-        cursor: &mut Cursor<'_>,
-        head: FieldHead<'_>,
-        value: Value,
-    ) -> Result<Ended<MemberNode>, ParseError>
-        requires side { cursor.old.note ≡ false }
-        ensures reads { Reads (ended member_form) (views.field_closing self.now.room head.entry.words head.entry.ty (lexeme head.entry.name) (value_seen value) (seen cursor.old)) result (seen cursor.new) }
-        ensures kept { IsKept cursor.old cursor.new }
-    {
-        let last = cursor.expect(Mark::Semicolon)?;
-        self.field_groups(cursor, head, value, last)
-    }
-
     /// A field, behind its name.
     #[tactic(auto, unfolding(crate::specs::FileReading::field_behind))]
     pub fn field_behind(
@@ -123,6 +83,8 @@ impl Files {
         ensures kept { IsKept cursor.old cursor.new }
     {
         let value = self.value(cursor)?;
-        self.field_closing(cursor, head, value)
+        let last = cursor.expect(Mark::Semicolon)?;
+        let groups = self.groups(cursor, last)?;
+        Ok(make_field(self.alloc, head, value, groups)?)
     }
 }

@@ -10,8 +10,8 @@ use jesc_ast::{Expr, ExprNode};
 pub fn is_target(e: &Expr) -> bool
     ensures { result ≡ spec.is_target (view e.now) }
 {
-    match &e.node {
-        ExprNode::Name(_) | ExprNode::Member { .. } | ExprNode::Index { .. } => true,
+    match e.node.get() {
+        ExprNode::Name(_) | ExprNode::Member(_) | ExprNode::Index(_) => true,
         _ => false,
     }
 }
@@ -20,8 +20,8 @@ pub fn is_target(e: &Expr) -> bool
 pub fn is_call(e: &Expr) -> bool
     ensures { result ≡ spec.is_call (view e.now) }
 {
-    match &e.node {
-        ExprNode::Call { .. } => true,
+    match e.node.get() {
+        ExprNode::Call(_) => true,
         _ => false,
     }
 }

@@ -1,10 +1,9 @@
 //! What classes begin with, behind their modifiers.
 
 ghost use Rattle.std.specs.Prelude.{◌≡◌, false};
-ghost use Rattle.jesc_jml_grammar.specs.Seen.{seen, lexeme, IsKept};
+ghost use Rattle.jesc_jml_grammar.specs.Seen.{seen, IsKept};
 ghost use Rattle.jesc_jml_grammar.specs.Steps.{Reads};
 ghost use Rattle.jesc_java_grammar.specs.FileReading as spec;
-ghost use Rattle.jesc_java_grammar.specs.ClassViews as views;
 ghost use Rattle.jesc_java_grammar.specs.ClassViews.{heading_view};
 ghost use Rattle.jesc_java_grammar.specs.Views.{part};
 
@@ -13,23 +12,13 @@ use crate::lexing::{is_word, peek_member, take_word};
 use crate::make_class::Heading;
 use crate::member_mark::MemberMark;
 use jesc_ast::Word;
-use jesc_jml_grammar::cursor::{Cursor, Lexeme};
+use jesc_jml_grammar::cursor::Cursor;
 use jesc_jml_grammar::fault::ParseError;
 use jesc_jml_grammar::lists::with_word;
 use jesc_jml_grammar::mark::Mark;
 use jesc_text::List;
 
 impl Files {
-    fn some_superclass(&self, cursor: &mut Cursor<'_>) -> Result<List<Word>, ParseError>
-        requires side { cursor.old.note ≡ false }
-        ensures reads { Reads (λ words. words) (views.some_superclass (seen cursor.old)) result (seen cursor.new) }
-        ensures kept { IsKept cursor.old cursor.new }
-    {
-        take_word(cursor, b"extends")?;
-        let x = cursor.expect(Mark::Name)?;
-        Ok(with_word(self.alloc, List::new(self.alloc), x)?)
-    }
-
     /// The class that a class extends, or none.
     #[tactic(auto, unfolding(crate::specs::FileReading::superclass))]
     fn superclass(&self, cursor: &mut Cursor<'_>) -> Result<List<Word>, ParseError>
@@ -37,31 +26,12 @@ impl Files {
         ensures reads { Reads (λ words. words) (part spec.superclass self.now.room (seen cursor.old)) result (seen cursor.new) }
         ensures kept { IsKept cursor.old cursor.new }
     {
-        if is_word(cursor, b"extends") {
-            self.some_superclass(cursor)
-        } else {
-            Ok(List::new(self.alloc))
+        if !is_word(cursor, b"extends") {
+            return Ok(List::new(self.alloc));
         }
-    }
-
-    /// Behind the name of a class.
-    fn class_heading_behind<'a>(
-        &self,
-        cursor: &mut Cursor<'a>,
-        name: Lexeme<'a>,
-    ) -> Result<Heading<'a>, ParseError>
-        requires side { cursor.old.note ≡ false }
-        ensures reads { Reads heading_view (views.class_heading_behind self.now.room (lexeme name.entry) (seen cursor.old)) result (seen cursor.new) }
-        ensures kept { IsKept cursor.old cursor.new }
-    {
-        let extends = self.superclass(cursor)?;
-        let implements = self.names_after(cursor, b"implements")?;
-        Ok(Heading {
-            is_interface: false,
-            name,
-            extends,
-            implements,
-        })
+        take_word(cursor, b"extends")?;
+        let x = cursor.expect(Mark::Name)?;
+        Ok(with_word(self.alloc, List::new(self.alloc), x)?)
     }
 
     #[tactic(auto, unfolding(crate::specs::FileReading::class_heading))]
@@ -72,7 +42,14 @@ impl Files {
     {
         take_word(cursor, b"class")?;
         let name = cursor.expect(Mark::Name)?;
-        self.class_heading_behind(cursor, name)
+        let extends = self.superclass(cursor)?;
+        let implements = self.names_after(cursor, b"implements")?;
+        Ok(Heading {
+            is_interface: false,
+            name,
+            extends,
+            implements,
+        })
     }
 
     #[tactic(auto, unfolding(crate::specs::FileReading::interface_heading))]

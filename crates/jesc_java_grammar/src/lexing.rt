@@ -3,9 +3,8 @@
 ghost use Rattle.std.specs.Prelude.{◌≡◌, ◌∷◌, [], true, false, codes};
 ghost use Rattle.jesc_ast.specs.Words.{is_one_of};
 ghost use Rattle.jesc_ast.specs.Members as ast;
-ghost use Rattle.jesc_jml_grammar.specs.Refining.{head};
 ghost use Rattle.jesc_jml_grammar.specs.Seen.{seen, lexeme, IsKept};
-ghost use Rattle.jesc_jml_grammar.specs.Steps.{Reads};
+ghost use Rattle.jesc_jml_grammar.specs.Steps.{Reads, head};
 ghost use Rattle.jesc_java_grammar.specs.Lexing as spec;
 ghost use Rattle.jesc_java_grammar.specs.StatementMarks as statements;
 ghost use Rattle.jesc_java_grammar.specs.FileMarks as files;

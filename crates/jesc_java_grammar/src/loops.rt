@@ -1,10 +1,9 @@
 //! Loops.
 
 ghost use Rattle.std.specs.Prelude.{◌≡◌, ◌+◌, ◌<◌, ◌≤◌, false, map, IfOk};
-ghost use Rattle.jesc_ast.specs.Trees.{statement_view, clause_view, optional_view};
+ghost use Rattle.jesc_ast.specs.Trees.{statement_view, clause_view};
 ghost use Rattle.jesc_jml_grammar.specs.ClauseSeen.{measured};
-ghost use Rattle.jesc_jml_grammar.specs.Nests.{parsed};
-ghost use Rattle.jesc_jml_grammar.specs.Seen.{seen, lexeme, IsKept};
+ghost use Rattle.jesc_jml_grammar.specs.Seen.{seen, IsKept};
 ghost use Rattle.jesc_jml_grammar.specs.Steps.{Reads};
 ghost use Rattle.jesc_java_grammar.specs.StatementReading as spec;
 ghost use Rattle.jesc_java_grammar.specs.StatementNests.{NestsStatement, over};
@@ -16,41 +15,16 @@ use crate::lexing::{peek_statement, take_word};
 use crate::make_loop::{ForHead, make_for, make_head, make_while};
 use crate::part::Parts;
 use crate::statement_mark::{Slot, StatementMark};
-use jesc_ast::{ClauseTree, Expr, Stmt};
-use jesc_jml_grammar::cursor::{Cursor, Lexeme};
+use jesc_ast::{ClauseTree, Stmt};
+use jesc_jml_grammar::cursor::Cursor;
 use jesc_jml_grammar::fault::ParseError;
-use jesc_jml_grammar::found::Found;
 use jesc_jml_grammar::mark::Mark;
 use jesc_jml_grammar::part::Measured;
 use jesc_text::List;
 use std::alloc::Global;
 
 impl Parts {
-    /// The last part of a `for`'s head, where `deeper` has the room of the statements in it.
-    fn for_closing(
-        &self,
-        cursor: &mut Cursor<'_>,
-        first: Measured<Option<Stmt>>,
-        test: Measured<Option<Expr>>,
-    ) -> Result<ForHead, ParseError>
-        requires room { self.now.room < 1000 }
-        requires some { 0 < self.now.room }
-        requires side { cursor.old.note ≡ false }
-        requires first { first.depth ≤ self.now.room }
-        requires test { test.depth ≤ self.now.room }
-        ensures reads { Reads for_head (views.for_closing self.now.room (measured optional_statement first) (measured optional_view test) (seen cursor.old)) result (seen cursor.new) }
-        ensures kept { IsKept cursor.old cursor.new }
-        ensures bounded { IfOk result (λ f. f.depth ≤ self.now.room) }
-    {
-        let inside = Parts {
-            alloc: self.alloc,
-            room: self.room - 1,
-        };
-        let last = inside.for_last(cursor)?;
-        cursor.expect(Mark::RightParen)?;
-        Ok(make_head(first, test, last))
-    }
-
+    /// The rest of the head of a `for`, behind its first semicolon.
     fn for_test(
         &self,
         cursor: &mut Cursor<'_>,
@@ -64,52 +38,21 @@ impl Parts {
         ensures kept { IsKept cursor.old cursor.new }
         ensures bounded { IfOk result (λ f. f.depth ≤ self.now.room) }
     {
-        let test = self.optional_value(cursor, Mark::Semicolon)?;
-        cursor.expect(Mark::Semicolon)?;
-        self.for_closing(cursor, first, test)
-    }
-
-    fn for_behind(&self, cursor: &mut Cursor<'_>) -> Result<ForHead, ParseError>
-        requires room { self.now.room < 1000 }
-        requires some { 0 < self.now.room }
-        requires side { cursor.old.note ≡ false }
-        ensures reads { Reads for_head (views.for_behind self.now.room (seen cursor.old)) result (seen cursor.new) }
-        ensures kept { IsKept cursor.old cursor.new }
-        ensures bounded { IfOk result (λ f. f.depth ≤ self.now.room) }
-    {
         let inside = Parts {
             alloc: self.alloc,
             room: self.room - 1,
         };
-        let first = inside.for_first(cursor)?;
+        let test = self.optional_value(cursor, Mark::Semicolon)?;
         cursor.expect(Mark::Semicolon)?;
-        self.for_test(cursor, first)
+        let last = inside.for_last(cursor)?;
+        cursor.expect(Mark::RightParen)?;
+        Ok(make_head(first, test, last))
     }
 }
 
 impl<S: Fn(Global, &mut Cursor<'_>, usize, Slot) -> Result<Measured<Stmt>, ParseError>> Statements<
     S,
 > {
-    fn turned(
-        &self,
-        cursor: &mut Cursor<'_>,
-        invariants: Measured<List<ClauseTree>>,
-        first: Lexeme<'_>,
-        test: Found,
-    ) -> Result<Measured<Stmt>, ParseError>
-        requires nests { NestsStatement self.now.room (S.pre self.now.statement) (S.post self.now.statement) }
-        requires room { self.now.room < 1000 }
-        requires side { cursor.old.note ≡ false }
-        requires invariants { invariants.depth ≤ self.now.room }
-        requires test { test.depth ≤ self.now.room }
-        ensures reads { Reads (measured statement_view) (views.while_turn self.now.room (measured (map clause_view) invariants) (lexeme first.entry) (parsed test) (seen cursor.old)) result (seen cursor.new) }
-        ensures kept { IsKept cursor.old cursor.new }
-        ensures bounded { IfOk result (λ f. f.depth ≤ self.now.room + 1) }
-    {
-        let turn = self.inner(cursor, Slot::Then)?;
-        Ok(make_while(self.alloc, invariants, first, test, turn)?)
-    }
-
     /// A `while`, behind its invariants.
     #[tactic(auto, unfolding(crate::specs::StatementReading::while_))]
     fn while_loop(
@@ -127,7 +70,8 @@ impl<S: Fn(Global, &mut Cursor<'_>, usize, Slot) -> Result<Measured<Stmt>, Parse
     {
         let first = take_word(cursor, b"while")?;
         let test = self.parts().condition(cursor)?;
-        self.turned(cursor, invariants, first, test)
+        let turn = self.inner(cursor, Slot::Then)?;
+        Ok(make_while(self.alloc, invariants, first, test, turn)?)
     }
 
     #[tactic(auto, unfolding(crate::specs::StatementReading::for_head))]
@@ -140,47 +84,13 @@ impl<S: Fn(Global, &mut Cursor<'_>, usize, Slot) -> Result<Measured<Stmt>, Parse
         ensures bounded { IfOk result (λ f. f.depth ≤ self.now.room) }
     {
         cursor.expect(Mark::LeftParen)?;
-        self.parts().for_behind(cursor)
-    }
-
-    fn for_turned(
-        &self,
-        cursor: &mut Cursor<'_>,
-        invariants: Measured<List<ClauseTree>>,
-        first: Lexeme<'_>,
-        head: ForHead,
-    ) -> Result<Measured<Stmt>, ParseError>
-        requires nests { NestsStatement self.now.room (S.pre self.now.statement) (S.post self.now.statement) }
-        requires room { self.now.room < 1000 }
-        requires side { cursor.old.note ≡ false }
-        requires invariants { invariants.depth ≤ self.now.room }
-        requires head { head.depth ≤ self.now.room }
-        ensures reads { Reads (measured statement_view) (views.for_turn self.now.room (measured (map clause_view) invariants) (lexeme first.entry) (for_head head) (seen cursor.old)) result (seen cursor.new) }
-        ensures kept { IsKept cursor.old cursor.new }
-        ensures bounded { IfOk result (λ f. f.depth ≤ self.now.room + 1) }
-    {
-        let turn = self.inner(cursor, Slot::Then)?;
-        Ok(make_for(self.alloc, invariants, first, head, turn)?)
-    }
-
-    /// A `for`, behind this word.
-    fn for_behind_word(
-        &self,
-        cursor: &mut Cursor<'_>,
-        invariants: Measured<List<ClauseTree>>,
-        first: Lexeme<'_>,
-    ) -> Result<Measured<Stmt>, ParseError>
-        requires nests { NestsStatement self.now.room (S.pre self.now.statement) (S.post self.now.statement) }
-        requires room { self.now.room < 1000 }
-        requires some { 0 < self.now.room }
-        requires side { cursor.old.note ≡ false }
-        requires invariants { invariants.depth ≤ self.now.room }
-        ensures reads { Reads (measured statement_view) (views.for_behind_word self.now.room (measured (map clause_view) invariants) (lexeme first.entry) (seen cursor.old)) result (seen cursor.new) }
-        ensures kept { IsKept cursor.old cursor.new }
-        ensures bounded { IfOk result (λ f. f.depth ≤ self.now.room + 1) }
-    {
-        let head = self.for_head(cursor)?;
-        self.for_turned(cursor, invariants, first, head)
+        let inside = Parts {
+            alloc: self.alloc,
+            room: self.room - 1,
+        };
+        let first = inside.for_first(cursor)?;
+        cursor.expect(Mark::Semicolon)?;
+        self.parts().for_test(cursor, first)
     }
 
     /// A `for`, behind its invariants.
@@ -200,7 +110,9 @@ impl<S: Fn(Global, &mut Cursor<'_>, usize, Slot) -> Result<Measured<Stmt>, Parse
         ensures bounded { IfOk result (λ f. f.depth ≤ self.now.room + 1) }
     {
         let first = take_word(cursor, b"for")?;
-        self.for_behind_word(cursor, invariants, first)
+        let head = self.for_head(cursor)?;
+        let turn = self.inner(cursor, Slot::Then)?;
+        Ok(make_for(self.alloc, invariants, first, head, turn)?)
     }
 
     /// A loop, behind its invariants, which begins with this mark.
@@ -226,36 +138,19 @@ impl<S: Fn(Global, &mut Cursor<'_>, usize, Slot) -> Result<Measured<Stmt>, Parse
         }
     }
 
-    fn loop_behind(
-        &self,
-        cursor: &mut Cursor<'_>,
-        invariants: Measured<List<ClauseTree>>,
-    ) -> Result<Measured<Stmt>, ParseError>
-        requires nests { NestsStatement self.now.room (S.pre self.now.statement) (S.post self.now.statement) }
-        requires room { self.now.room < 1000 }
-        requires some { 0 < self.now.room }
-        requires side { cursor.old.note ≡ false }
-        requires invariants { invariants.depth ≤ self.now.room }
-        ensures reads { Reads (measured statement_view) (views.loop_behind self.now.room (measured (map clause_view) invariants) (seen cursor.old)) result (seen cursor.new) }
-        ensures kept { IsKept cursor.old cursor.new }
-        ensures bounded { IfOk result (λ f. f.depth ≤ self.now.room + 1) }
-    {
-        let mark = peek_statement(cursor);
-        self.loop_by(cursor, invariants, mark)
-    }
-
     /// A loop.
-    #[tactic(auto, using(crate::proofs::StatementRules::loop_rule))]
+    #[tactic(auto, unfolding(crate::specs::StatementReading::loop_))]
     pub fn loop_statement(&self, cursor: &mut Cursor<'_>) -> Result<Measured<Stmt>, ParseError>
         requires nests { NestsStatement self.now.room (S.pre self.now.statement) (S.post self.now.statement) }
         requires room { self.now.room < 1000 }
         requires some { 0 < self.now.room }
         requires side { cursor.old.note ≡ false }
-        ensures reads { Reads (measured statement_view) (over spec.loop self.now.room (seen cursor.old)) result (seen cursor.new) }
+        ensures reads { Reads (measured statement_view) (over spec.loop_ self.now.room (seen cursor.old)) result (seen cursor.new) }
         ensures kept { IsKept cursor.old cursor.new }
         ensures bounded { IfOk result (λ f. f.depth ≤ self.now.room + 1) }
     {
         let invariants = self.parts().invariants(cursor)?;
-        self.loop_behind(cursor, invariants)
+        let mark = peek_statement(cursor);
+        self.loop_by(cursor, invariants, mark)
     }
 }

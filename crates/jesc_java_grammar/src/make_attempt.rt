@@ -2,19 +2,20 @@
 
 ghost use Rattle.std.specs.Prelude.{◌≡◌, ◌≤◌, max, map, IfOk};
 ghost use Rattle.jesc_ast.specs.Statements as ast;
-ghost use Rattle.jesc_ast.specs.Trees.{statement_view, body_view, catches_of};
+ghost use Rattle.jesc_ast.specs.Trees.{statement_view, body_view, catches_of, catch_view};
 ghost use Rattle.jesc_jml_grammar.specs.ClauseFound.{with_more};
 ghost use Rattle.jesc_jml_grammar.specs.ClauseSeen.{measured};
 ghost use Rattle.jesc_jml_grammar.specs.Seen.{lexeme};
 ghost use Rattle.jesc_java_grammar.specs.StatementFound as spec;
-ghost use Rattle.jesc_java_grammar.specs.Views.{catch_view, catch_head};
+ghost use Rattle.jesc_java_grammar.specs.Views.{catch_head};
 
-use jesc_ast::{BodyTree, CatchTree, Stmt, StmtNode};
+use crate::make::statement;
+use jesc_ast::{BodyTree, CatchTree, Stmt, StmtNode, TryTree};
 use jesc_jml_grammar::cursor::Lexeme;
 use jesc_jml_grammar::make::word_of;
 use jesc_jml_grammar::part::Measured;
 use jesc_jml_grammar::span::join;
-use jesc_text::{List, OutOfMemory, Span};
+use jesc_text::{Boxed, List, OutOfMemory, Span};
 use std::alloc::Global;
 
 /// What a `catch` begins with.
@@ -69,23 +70,22 @@ fn end_of_catches(close: Span, catches: &List<CatchTree>) -> Span
 }
 
 pub fn make_attempt(
+    alloc: Global,
     first: Lexeme<'_>,
     body: Measured<BodyTree>,
     catches: Measured<List<CatchTree>>,
-) -> Measured<Stmt>
+) -> Result<Measured<Stmt>, OutOfMemory>
     requires body { body.depth ≤ 1000 }
     requires catches { catches.depth ≤ 1000 }
-    ensures { measured statement_view result ≡ spec.attempt_of (lexeme first.entry) (measured body_view body) (measured (map catch_view) catches) }
+    ensures { IfOk result (λ f. measured statement_view f ≡ spec.attempt_of (lexeme first.entry) (measured body_view body) (measured (map catch_view) catches)) }
 {
     let close = end_of_catches(body.tree.close, &catches.tree);
-    Measured {
-        tree: Stmt {
-            span: join(first.span, close),
-            node: StmtNode::Try {
-                body: body.tree,
-                catches: catches.tree,
-            },
-        },
-        depth: body.depth.max(catches.depth) + 1,
-    }
+    let depth = body.depth.max(catches.depth) + 1;
+    let form = TryTree {
+        body: body.tree,
+        catches: catches.tree,
+    };
+    let span = join(first.span, close);
+    let node = StmtNode::Try(Boxed::new(alloc, form)?);
+    statement(alloc, span, node, depth)
 }

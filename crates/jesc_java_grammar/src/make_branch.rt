@@ -10,7 +10,8 @@ ghost use Rattle.jesc_jml_grammar.specs.Seen.{lexeme};
 ghost use Rattle.jesc_java_grammar.specs.StatementFound as spec;
 ghost use Rattle.jesc_java_grammar.specs.Views.{optional_statement};
 
-use jesc_ast::{Expr, Stmt, StmtNode};
+use crate::make::statement;
+use jesc_ast::{Expr, IfTree, Stmt, StmtNode};
 use jesc_jml_grammar::cursor::Lexeme;
 use jesc_jml_grammar::found::Found;
 use jesc_jml_grammar::part::Measured;
@@ -24,14 +25,20 @@ pub fn span_of_statement(s: &Stmt) -> Span
     s.span
 }
 
-#[tactic(auto, using(crate::proofs::StatementNodes::branch_node))]
-fn branch(span: Span, test: Expr, then: Boxed<Stmt>, other: Option<Boxed<Stmt>>) -> Stmt
-    ensures { statement_view result ≡ trees.branch span (view test) (statement_view then) (optional_statement other) }
+/// Without an `else` there is no other branch.
+fn branch(
+    alloc: Global,
+    span: Span,
+    test: Expr,
+    then: Stmt,
+    other: Option<Stmt>,
+    depth: usize,
+) -> Result<Measured<Stmt>, OutOfMemory>
+    ensures value { IfOk result (λ f. statement_view f.tree ≡ trees.branch span (view test) (statement_view then) (optional_statement other)) }
+    ensures depth { IfOk result (λ f. f.depth ≡ depth) }
 {
-    Stmt {
-        span,
-        node: StmtNode::If { test, then, other },
-    }
+    let form = IfTree { test, then, other };
+    statement(alloc, span, StmtNode::If(Boxed::new(alloc, form)?), depth)
 }
 
 pub fn make_branch(
@@ -46,26 +53,7 @@ pub fn make_branch(
 {
     let span = join(first.span, span_of_statement(&then.tree));
     let depth = test.depth.max(then.depth) + 1;
-    let then = Boxed::new(alloc, then.tree)?;
-    Ok(Measured {
-        tree: branch(span, test.expr, then, None),
-        depth,
-    })
-}
-
-/// Two statements on the heap.
-#[derive(Drop)]
-pub struct Arms {
-    pub then: Boxed<Stmt>,
-    pub other: Boxed<Stmt>,
-}
-
-fn make_arms(alloc: Global, then: Stmt, other: Stmt) -> Result<Arms, OutOfMemory>
-    ensures { IfOk result (λ a. a ≡ record { then = then; other = other }) }
-{
-    let then = Boxed::new(alloc, then)?;
-    let other = Boxed::new(alloc, other)?;
-    Ok(Arms { then, other })
+    branch(alloc, span, test.expr, then.tree, None, depth)
 }
 
 pub fn make_branch_else(
@@ -82,9 +70,5 @@ pub fn make_branch_else(
 {
     let span = join(first.span, span_of_statement(&other.tree));
     let depth = test.depth.max(then.depth).max(other.depth) + 1;
-    let Arms { then, other } = make_arms(alloc, then.tree, other.tree)?;
-    Ok(Measured {
-        tree: branch(span, test.expr, then, Some(other)),
-        depth,
-    })
+    branch(alloc, span, test.expr, then.tree, Some(other.tree), depth)
 }

@@ -14,7 +14,7 @@ use jesc_jml_grammar::cursor::Lexeme;
 use jesc_jml_grammar::make::word_of;
 use jesc_jml_grammar::part::{Ended, Measured};
 use jesc_jml_grammar::span::join;
-use jesc_text::{List, OutOfMemory, Span};
+use jesc_text::{Boxed, List, OutOfMemory, Span};
 use std::alloc::Global;
 
 /// What a class begins with, behind its modifiers.
@@ -60,16 +60,20 @@ pub fn with_class(
 // ---- trees
 
 /// The member whose first token has this span.
-pub fn make_member(first: Span, form: Ended<MemberNode>) -> Measured<MemberTree>
-    ensures { measured member_view result ≡ spec.spanned first (ended member_form form) }
+pub fn make_member(
+    alloc: Global,
+    first: Span,
+    form: Ended<MemberNode>,
+) -> Result<Measured<MemberTree>, OutOfMemory>
+    ensures { IfOk result (λ m. measured member_view m ≡ spec.spanned first (ended member_form form)) }
 {
-    Measured {
+    Ok(Measured {
         tree: MemberTree {
             span: join(first, form.last),
-            node: form.tree,
+            node: Boxed::new(alloc, form.tree)?,
         },
         depth: form.depth,
-    }
+    })
 }
 
 /// The class whose first token has the span `first`, and whose closing brace is `last`.

@@ -9,8 +9,9 @@ ghost use Rattle.jesc_jml_grammar.specs.Seen.{lexeme};
 ghost use Rattle.jesc_java_grammar.specs.StatementFound as spec;
 ghost use Rattle.jesc_java_grammar.specs.Views.{for_head, optional_statement};
 
+use crate::make::statement;
 use crate::make_branch::span_of_statement;
-use jesc_ast::{ClauseTree, Expr, Stmt, StmtNode};
+use jesc_ast::{ClauseTree, Expr, ForTree, Stmt, StmtNode, WhileTree};
 use jesc_jml_grammar::cursor::Lexeme;
 use jesc_jml_grammar::found::Found;
 use jesc_jml_grammar::part::Measured;
@@ -32,18 +33,13 @@ pub fn make_while(
 {
     let span = join(first.span, span_of_statement(&turn.tree));
     let depth = invariants.depth.max(test.depth).max(turn.depth) + 1;
-    let body = Boxed::new(alloc, turn.tree)?;
-    Ok(Measured {
-        tree: Stmt {
-            span,
-            node: StmtNode::While {
-                invariants: invariants.tree,
-                test: test.expr,
-                body,
-            },
-        },
-        depth,
-    })
+    let form = WhileTree {
+        invariants: invariants.tree,
+        test: test.expr,
+        body: turn.tree,
+    };
+    let node = StmtNode::While(Boxed::new(alloc, form)?);
+    statement(alloc, span, node, depth)
 }
 
 /// What stands between the parentheses of a `for`.
@@ -70,54 +66,6 @@ pub fn make_head(
     }
 }
 
-fn boxed_option(alloc: Global, s: Option<Stmt>) -> Result<Option<Boxed<Stmt>>, OutOfMemory>
-    ensures { IfOk result (λ b. b ≡ s) }
-{
-    match s {
-        None => Ok(None),
-        Some(s) => Ok(Some(Boxed::new(alloc, s)?)),
-    }
-}
-
-/// The statements of a `for`, on the heap.
-#[derive(Drop)]
-pub struct ForParts {
-    pub first: Option<Boxed<Stmt>>,
-    pub last: Option<Boxed<Stmt>>,
-    pub body: Boxed<Stmt>,
-}
-
-fn make_for_parts(
-    alloc: Global,
-    first: Option<Stmt>,
-    last: Option<Stmt>,
-    body: Stmt,
-) -> Result<ForParts, OutOfMemory>
-    ensures { IfOk result (λ p. p ≡ record { first = first; last = last; body = body }) }
-{
-    let first = boxed_option(alloc, first)?;
-    let last = boxed_option(alloc, last)?;
-    let body = Boxed::new(alloc, body)?;
-    Ok(ForParts { first, last, body })
-}
-
-#[tactic(auto, using(crate::proofs::StatementNodes::for_node))]
-fn for_loop(span: Span, invariants: List<ClauseTree>, test: Option<Expr>, parts: ForParts) -> Stmt
-    ensures { statement_view result ≡ trees.for_loop span (map clause_view invariants) (optional_statement parts.first) (optional_view test) (optional_statement parts.last) (statement_view parts.body) }
-{
-    let ForParts { first, last, body } = parts;
-    Stmt {
-        span,
-        node: StmtNode::For {
-            invariants,
-            first,
-            test,
-            last,
-            body,
-        },
-    }
-}
-
 pub fn make_for(
     alloc: Global,
     invariants: Measured<List<ClauseTree>>,
@@ -132,10 +80,13 @@ pub fn make_for(
 {
     let span = join(first.span, span_of_statement(&turn.tree));
     let depth = invariants.depth.max(head.depth).max(turn.depth) + 1;
-    let test = head.test;
-    let parts = make_for_parts(alloc, head.first, head.last, turn.tree)?;
-    Ok(Measured {
-        tree: for_loop(span, invariants.tree, test, parts),
-        depth,
-    })
+    let form = ForTree {
+        invariants: invariants.tree,
+        first: head.first,
+        test: head.test,
+        last: head.last,
+        body: turn.tree,
+    };
+    let node = StmtNode::For(Boxed::new(alloc, form)?);
+    statement(alloc, span, node, depth)
 }

@@ -10,11 +10,14 @@ ghost use Rattle.jesc_jml_grammar.specs.Seen.{lexeme};
 ghost use Rattle.jesc_java_grammar.specs.FileReading as spec;
 ghost use Rattle.jesc_java_grammar.specs.FileViews.{signature_seen};
 
-use jesc_ast::{BodyTree, MemberNode, ParamTree, SpecTree, TypeTree, Word};
+use jesc_ast::{
+    BodyTree, ConstructorTree, FieldTree, MemberNode, MethodTree, ParamTree, SpecTree, TypeTree,
+    Word,
+};
 use jesc_jml_grammar::cursor::Lexeme;
 use jesc_jml_grammar::make::word_of;
 use jesc_jml_grammar::part::{Ended, FieldHead, Measured, Value};
-use jesc_text::{List, OutOfMemory, Span};
+use jesc_text::{Boxed, List, OutOfMemory, Span};
 use std::alloc::Global;
 
 /// The parameters of a method or constructor, and what it throws.
@@ -58,15 +61,16 @@ pub fn make_field(
 ) -> Result<Ended<MemberNode>, OutOfMemory>
     ensures { IfOk result (λ f. ended member_form f ≡ spec.field_of head.entry.words head.entry.ty (lexeme head.entry.name) (value_seen value) (ended (λ words. words) groups)) }
 {
+    let tree = FieldTree {
+        modifiers: head.words,
+        ty: head.ty,
+        name: word_of(alloc, head.name)?,
+        equals: value.equals,
+        value: value.e,
+        groups: groups.tree,
+    };
     Ok(Ended {
-        tree: MemberNode::Field {
-            modifiers: head.words,
-            ty: head.ty,
-            name: word_of(alloc, head.name)?,
-            equals: value.equals,
-            value: value.e,
-            groups: groups.tree,
-        },
+        tree: MemberNode::Field(Boxed::new(alloc, tree)?),
         depth: value.depth,
         last: groups.last,
     })
@@ -86,17 +90,19 @@ pub fn make_method(
         modifiers,
         name,
     } = head;
+    let depth = spec.depth.max(body.depth);
+    let tree = MethodTree {
+        spec: spec.tree,
+        modifiers,
+        result: ty,
+        name: word_of(alloc, name)?,
+        params: signature.params,
+        throws: signature.throws,
+        body: body.tree,
+    };
     Ok(Ended {
-        tree: MemberNode::Method {
-            spec: spec.tree,
-            modifiers,
-            result: ty,
-            name: word_of(alloc, name)?,
-            params: signature.params,
-            throws: signature.throws,
-            body: body.tree,
-        },
-        depth: spec.depth.max(body.depth),
+        tree: MemberNode::Method(Boxed::new(alloc, tree)?),
+        depth,
         last: body.last,
     })
 }
@@ -115,16 +121,18 @@ pub fn make_constructor(
         name,
     } = head;
     let last = end_of(&body.tree);
+    let depth = spec.depth.max(body.depth);
+    let tree = ConstructorTree {
+        spec: spec.tree,
+        modifiers,
+        name: word_of(alloc, name)?,
+        params: signature.params,
+        throws: signature.throws,
+        body: body.tree,
+    };
     Ok(Ended {
-        tree: MemberNode::Constructor {
-            spec: spec.tree,
-            modifiers,
-            name: word_of(alloc, name)?,
-            params: signature.params,
-            throws: signature.throws,
-            body: body.tree,
-        },
-        depth: spec.depth.max(body.depth),
+        tree: MemberNode::Constructor(Boxed::new(alloc, tree)?),
+        depth,
         last,
     })
 }

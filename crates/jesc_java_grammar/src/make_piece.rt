@@ -8,13 +8,14 @@ ghost use Rattle.jesc_ast.specs.Trees.{statement_view};
 ghost use Rattle.jesc_java_grammar.specs.StatementFound as spec;
 ghost use Rattle.jesc_java_grammar.specs.Views.{piece};
 
-use jesc_ast::{Stmt, StmtNode, TypeTree};
+use crate::make::statement;
+use jesc_ast::{AssignTree, LocalTree, Stmt, StmtNode, TypeTree};
 use jesc_jml_grammar::cursor::Lexeme;
 use jesc_jml_grammar::found::Found;
 use jesc_jml_grammar::make::word_of;
 use jesc_jml_grammar::part::Measured;
 use jesc_jml_grammar::span::{join, span_of};
-use jesc_text::{OutOfMemory, Span};
+use jesc_text::{Boxed, OutOfMemory, Span};
 use std::alloc::Global;
 
 pub fn make_local(
@@ -29,19 +30,16 @@ pub fn make_local(
     requires { value.depth ≤ 1000 }
     ensures { IfOk result (λ f. piece f ≡ spec.local_of first is_final ty (lexeme x.entry) (lexeme equals.entry) (parsed value)) }
 {
-    Ok(Measured {
-        tree: Stmt {
-            span: join(first, span_of(&value.expr)),
-            node: StmtNode::Local {
-                is_final,
-                ty,
-                name: word_of(alloc, x)?,
-                equals: equals.span,
-                value: value.expr,
-            },
-        },
-        depth: value.depth + 1,
-    })
+    let span = join(first, span_of(&value.expr));
+    let form = LocalTree {
+        is_final,
+        ty,
+        name: word_of(alloc, x)?,
+        equals: equals.span,
+        value: value.expr,
+    };
+    let node = StmtNode::Local(Boxed::new(alloc, form)?);
+    Ok(statement(alloc, span, node, value.depth + 1)?)
 }
 
 pub fn make_assign(
@@ -54,18 +52,15 @@ pub fn make_assign(
     requires value { value.depth ≤ 1000 }
     ensures { IfOk result (λ f. piece f ≡ spec.assign_of (parsed target) (lexeme op.entry) (parsed value)) }
 {
-    Ok(Measured {
-        tree: Stmt {
-            span: join(span_of(&target.expr), span_of(&value.expr)),
-            node: StmtNode::Assign {
-                target: target.expr,
-                op: word_of(alloc, op)?,
-                before: false,
-                value: Some(value.expr),
-            },
-        },
-        depth: target.depth.max(value.depth) + 1,
-    })
+    let span = join(span_of(&target.expr), span_of(&value.expr));
+    let form = AssignTree {
+        target: target.expr,
+        op: word_of(alloc, op)?,
+        before: false,
+        value: Some(value.expr),
+    };
+    let node = StmtNode::Assign(Boxed::new(alloc, form)?);
+    Ok(statement(alloc, span, node, target.depth.max(value.depth) + 1)?)
 }
 
 pub fn make_step_after(
@@ -76,18 +71,15 @@ pub fn make_step_after(
     requires { target.depth ≤ 1000 }
     ensures { IfOk result (λ f. piece f ≡ spec.step_after_of (parsed target) (lexeme op.entry)) }
 {
-    Ok(Measured {
-        tree: Stmt {
-            span: join(span_of(&target.expr), op.span),
-            node: StmtNode::Assign {
-                target: target.expr,
-                op: word_of(alloc, op)?,
-                before: false,
-                value: None,
-            },
-        },
-        depth: target.depth + 1,
-    })
+    let span = join(span_of(&target.expr), op.span);
+    let form = AssignTree {
+        target: target.expr,
+        op: word_of(alloc, op)?,
+        before: false,
+        value: None,
+    };
+    let node = StmtNode::Assign(Boxed::new(alloc, form)?);
+    Ok(statement(alloc, span, node, target.depth + 1)?)
 }
 
 pub fn make_step_before(
@@ -98,31 +90,23 @@ pub fn make_step_before(
     requires { target.depth ≤ 1000 }
     ensures { IfOk result (λ f. piece f ≡ spec.step_before_of (lexeme op.entry) (parsed target)) }
 {
-    Ok(Measured {
-        tree: Stmt {
-            span: join(op.span, span_of(&target.expr)),
-            node: StmtNode::Assign {
-                target: target.expr,
-                op: word_of(alloc, op)?,
-                before: true,
-                value: None,
-            },
-        },
-        depth: target.depth + 1,
-    })
+    let span = join(op.span, span_of(&target.expr));
+    let form = AssignTree {
+        target: target.expr,
+        op: word_of(alloc, op)?,
+        before: true,
+        value: None,
+    };
+    let node = StmtNode::Assign(Boxed::new(alloc, form)?);
+    Ok(statement(alloc, span, node, target.depth + 1)?)
 }
 
-pub fn make_call(e: Found) -> Measured<Stmt>
+pub fn make_call(alloc: Global, e: Found) -> Result<Measured<Stmt>, OutOfMemory>
     requires { e.depth ≤ 1000 }
-    ensures { piece result ≡ spec.call_of (parsed e) }
+    ensures { IfOk result (λ f. piece f ≡ spec.call_of (parsed e)) }
 {
-    Measured {
-        tree: Stmt {
-            span: span_of(&e.expr),
-            node: StmtNode::Call(e.expr),
-        },
-        depth: e.depth + 1,
-    }
+    let span = span_of(&e.expr);
+    Ok(statement(alloc, span, StmtNode::Call(e.expr), e.depth + 1)?)
 }
 
 /// The statement that ends with this semicolon.

@@ -8,116 +8,104 @@ ghost use Rattle.jesc_jml_grammar.specs.Seen.{lexeme};
 ghost use Rattle.jesc_java_grammar.specs.StatementFound as spec;
 ghost use Rattle.jesc_java_grammar.specs.Views.{ghost_head};
 
-use jesc_ast::{Expr, Stmt, StmtNode, TypeTree};
+use crate::make::statement;
+use jesc_ast::{Expr, GhostTree, SetTree, Stmt, StmtNode, TypeTree};
 use jesc_jml_grammar::cursor::Lexeme;
 use jesc_jml_grammar::found::{Found, FoundList};
 use jesc_jml_grammar::make::word_of;
 use jesc_jml_grammar::part::Measured;
 use jesc_jml_grammar::span::join;
-use jesc_text::OutOfMemory;
+use jesc_text::{Boxed, OutOfMemory};
 use std::alloc::Global;
 
 pub fn make_return(
+    alloc: Global,
     first: Lexeme<'_>,
     value: Measured<Option<Expr>>,
     last: Lexeme<'_>,
-) -> Measured<Stmt>
+) -> Result<Measured<Stmt>, OutOfMemory>
     requires { value.depth ≤ 1000 }
-    ensures { measured statement_view result ≡ spec.return_of (lexeme first.entry) (measured optional_view value) (lexeme last.entry) }
+    ensures { IfOk result (λ f. measured statement_view f ≡ spec.return_of (lexeme first.entry) (measured optional_view value) (lexeme last.entry)) }
 {
-    Measured {
-        tree: Stmt {
-            span: join(first.span, last.span),
-            node: StmtNode::Return(value.tree),
-        },
-        depth: value.depth + 1,
-    }
+    let span = join(first.span, last.span);
+    statement(alloc, span, StmtNode::Return(value.tree), value.depth + 1)
 }
 
-pub fn make_throw(first: Lexeme<'_>, value: Found, last: Lexeme<'_>) -> Measured<Stmt>
+pub fn make_throw(
+    alloc: Global,
+    first: Lexeme<'_>,
+    value: Found,
+    last: Lexeme<'_>,
+) -> Result<Measured<Stmt>, OutOfMemory>
     requires { value.depth ≤ 1000 }
-    ensures { measured statement_view result ≡ spec.throw_of (lexeme first.entry) (parsed value) (lexeme last.entry) }
+    ensures { IfOk result (λ f. measured statement_view f ≡ spec.throw_of (lexeme first.entry) (parsed value) (lexeme last.entry)) }
 {
-    Measured {
-        tree: Stmt {
-            span: join(first.span, last.span),
-            node: StmtNode::Throw(value.expr),
-        },
-        depth: value.depth + 1,
-    }
+    let span = join(first.span, last.span);
+    statement(alloc, span, StmtNode::Throw(value.expr), value.depth + 1)
 }
 
-pub fn make_break(first: Lexeme<'_>, last: Lexeme<'_>) -> Measured<Stmt>
-    ensures { measured statement_view result ≡ spec.break_of (lexeme first.entry) (lexeme last.entry) }
+pub fn make_break(
+    alloc: Global,
+    first: Lexeme<'_>,
+    last: Lexeme<'_>,
+) -> Result<Measured<Stmt>, OutOfMemory>
+    ensures { IfOk result (λ f. measured statement_view f ≡ spec.break_of (lexeme first.entry) (lexeme last.entry)) }
 {
-    Measured {
-        tree: Stmt {
-            span: join(first.span, last.span),
-            node: StmtNode::Break,
-        },
-        depth: 1,
-    }
+    let span = join(first.span, last.span);
+    statement(alloc, span, StmtNode::Break, 1)
 }
 
-pub fn make_continue(first: Lexeme<'_>, last: Lexeme<'_>) -> Measured<Stmt>
-    ensures { measured statement_view result ≡ spec.continue_of (lexeme first.entry) (lexeme last.entry) }
+pub fn make_continue(
+    alloc: Global,
+    first: Lexeme<'_>,
+    last: Lexeme<'_>,
+) -> Result<Measured<Stmt>, OutOfMemory>
+    ensures { IfOk result (λ f. measured statement_view f ≡ spec.continue_of (lexeme first.entry) (lexeme last.entry)) }
 {
-    Measured {
-        tree: Stmt {
-            span: join(first.span, last.span),
-            node: StmtNode::Continue,
-        },
-        depth: 1,
-    }
+    let span = join(first.span, last.span);
+    statement(alloc, span, StmtNode::Continue, 1)
 }
 
-pub fn make_empty(only: Lexeme<'_>) -> Measured<Stmt>
-    ensures { measured statement_view result ≡ spec.empty_of (lexeme only.entry) }
+pub fn make_empty(alloc: Global, only: Lexeme<'_>) -> Result<Measured<Stmt>, OutOfMemory>
+    ensures { IfOk result (λ f. measured statement_view f ≡ spec.empty_of (lexeme only.entry)) }
 {
-    Measured {
-        tree: Stmt {
-            span: only.span,
-            node: StmtNode::Empty,
-        },
-        depth: 1,
-    }
+    let span = only.span;
+    statement(alloc, span, StmtNode::Empty, 1)
 }
 
-pub fn make_assertion(first: Lexeme<'_>, e: Found, last: Lexeme<'_>) -> Measured<Stmt>
+pub fn make_assertion(
+    alloc: Global,
+    first: Lexeme<'_>,
+    e: Found,
+    last: Lexeme<'_>,
+) -> Result<Measured<Stmt>, OutOfMemory>
     requires { e.depth ≤ 1000 }
-    ensures { measured statement_view result ≡ spec.assertion_of (lexeme first.entry) (parsed e) (lexeme last.entry) }
+    ensures { IfOk result (λ f. measured statement_view f ≡ spec.assertion_of (lexeme first.entry) (parsed e) (lexeme last.entry)) }
 {
-    Measured {
-        tree: Stmt {
-            span: join(first.span, last.span),
-            node: StmtNode::Assert(e.expr),
-        },
-        depth: e.depth + 1,
-    }
+    let span = join(first.span, last.span);
+    statement(alloc, span, StmtNode::Assert(e.expr), e.depth + 1)
 }
 
 pub fn make_set(
+    alloc: Global,
     first: Lexeme<'_>,
     target: Found,
     equals: Lexeme<'_>,
     value: Found,
     last: Lexeme<'_>,
-) -> Measured<Stmt>
+) -> Result<Measured<Stmt>, OutOfMemory>
     requires target { target.depth ≤ 1000 }
     requires value { value.depth ≤ 1000 }
-    ensures { measured statement_view result ≡ spec.set_of (lexeme first.entry) (parsed target) (lexeme equals.entry) (parsed value) (lexeme last.entry) }
+    ensures { IfOk result (λ f. measured statement_view f ≡ spec.set_of (lexeme first.entry) (parsed target) (lexeme equals.entry) (parsed value) (lexeme last.entry)) }
 {
-    Measured {
-        tree: Stmt {
-            span: join(first.span, last.span),
-            node: StmtNode::Set {
-                target: target.expr,
-                equals: equals.span,
-                value: value.expr,
-            },
-        },
-        depth: target.depth.max(value.depth) + 1,
-    }
+    let span = join(first.span, last.span);
+    let form = SetTree {
+        target: target.expr,
+        equals: equals.span,
+        value: value.expr,
+    };
+    let node = StmtNode::Set(Boxed::new(alloc, form)?);
+    statement(alloc, span, node, target.depth.max(value.depth) + 1)
 }
 
 /// The type, the name and the equals sign of a ghost local.
@@ -138,29 +126,26 @@ pub fn make_ghost(
     requires { value.depth ≤ 1000 }
     ensures { IfOk result (λ f. measured statement_view f ≡ spec.ghost_of (ghost_head head.entry) (parsed value) (lexeme last.entry)) }
 {
-    Ok(Measured {
-        tree: Stmt {
-            span: join(head.first.span, last.span),
-            node: StmtNode::Ghost {
-                ty: head.ty,
-                name: word_of(alloc, head.name)?,
-                equals: head.equals.span,
-                value: value.expr,
-            },
-        },
-        depth: value.depth + 1,
-    })
+    let span = join(head.first.span, last.span);
+    let form = GhostTree {
+        ty: head.ty,
+        name: word_of(alloc, head.name)?,
+        equals: head.equals.span,
+        value: value.expr,
+    };
+    let node = StmtNode::Ghost(Boxed::new(alloc, form)?);
+    statement(alloc, span, node, value.depth + 1)
 }
 
-pub fn make_super(first: Lexeme<'_>, args: FoundList, last: Lexeme<'_>) -> Measured<Stmt>
+pub fn make_super(
+    alloc: Global,
+    first: Lexeme<'_>,
+    args: FoundList,
+    last: Lexeme<'_>,
+) -> Result<Measured<Stmt>, OutOfMemory>
     requires { args.depth ≤ 1000 }
-    ensures { measured statement_view result ≡ spec.super_call_of (lexeme first.entry) (listed args) (lexeme last.entry) }
+    ensures { IfOk result (λ f. measured statement_view f ≡ spec.super_call_of (lexeme first.entry) (listed args) (lexeme last.entry)) }
 {
-    Measured {
-        tree: Stmt {
-            span: join(first.span, last.span),
-            node: StmtNode::Super(args.items),
-        },
-        depth: args.depth + 1,
-    }
+    let span = join(first.span, last.span);
+    statement(alloc, span, StmtNode::Super(args.items), args.depth + 1)
 }

@@ -90,7 +90,7 @@ impl Files {
     {
         let first = cursor.next_span();
         let form = self.form(cursor)?;
-        Ok(make_member(first, form))
+        Ok(make_member(self.alloc, first, form)?)
     }
 
     /// Members up to a brace, behind others.

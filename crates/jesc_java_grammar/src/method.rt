@@ -7,14 +7,12 @@ ghost use Rattle.jesc_jml_grammar.specs.ClauseSeen.{measured, ended};
 ghost use Rattle.jesc_jml_grammar.specs.Seen.{seen, lexeme, IsKept};
 ghost use Rattle.jesc_jml_grammar.specs.Steps.{Reads};
 ghost use Rattle.jesc_java_grammar.specs.FileReading as rules;
-ghost use Rattle.jesc_java_grammar.specs.FileViews as views;
-ghost use Rattle.jesc_java_grammar.specs.FileViews.{signature_seen};
 ghost use Rattle.jesc_java_grammar.specs.Views.{part};
 
 use crate::body::Statements;
 use crate::files::Files;
 use crate::lexing::take_word;
-use crate::make_member::{MethodHead, Signature, make_constructor, make_method, some_body};
+use crate::make_member::{MethodHead, make_constructor, make_method, some_body};
 use crate::names::is_at;
 use crate::statement::statement;
 use jesc_ast::{BodyTree, MemberNode, SpecTree, TypeTree, Word};
@@ -25,38 +23,8 @@ use jesc_jml_grammar::part::{Ended, Measured};
 use jesc_text::List;
 
 impl Files {
-    #[tactic(auto, unfolding(crate::specs::FileReading::no_body))]
-    fn no_body(&self, cursor: &mut Cursor<'_>) -> Result<Ended<Option<BodyTree>>, ParseError>
-        requires side { cursor.old.note ≡ false }
-        ensures reads { Reads (ended optional_body_view) (part rules.no_body self.now.room (seen cursor.old)) result (seen cursor.new) }
-        ensures kept { IsKept cursor.old cursor.new }
-    {
-        let only = cursor.expect(Mark::Semicolon)?;
-        Ok(Ended {
-            tree: None,
-            depth: 0,
-            last: only.span,
-        })
-    }
-
-    #[tactic(auto, unfolding(crate::specs::FileReading::braced_body))]
-    fn braced_body(&self, cursor: &mut Cursor<'_>) -> Result<Ended<Option<BodyTree>>, ParseError>
-        requires room { self.now.room < 1000 }
-        requires side { cursor.old.note ≡ false }
-        ensures reads { Reads (ended optional_body_view) (part rules.braced_body self.now.room (seen cursor.old)) result (seen cursor.new) }
-        ensures kept { IsKept cursor.old cursor.new }
-    {
-        let body = Statements {
-            alloc: self.alloc,
-            room: self.room,
-            statement,
-        }
-        .braced(cursor)?;
-        Ok(some_body(body))
-    }
-
     /// A body, or a semicolon in its place.
-    #[tactic(auto, unfolding(crate::specs::FileReading::method_body))]
+    #[tactic(auto, unfolding(crate::specs::FileReading::method_body, crate::specs::FileReading::no_body, crate::specs::FileReading::braced_body))]
     fn method_body(&self, cursor: &mut Cursor<'_>) -> Result<Ended<Option<BodyTree>>, ParseError>
         requires room { self.now.room < 1000 }
         requires side { cursor.old.note ≡ false }
@@ -64,26 +32,20 @@ impl Files {
         ensures kept { IsKept cursor.old cursor.new }
     {
         if is_at(cursor, Mark::Semicolon) {
-            self.no_body(cursor)
-        } else {
-            self.braced_body(cursor)
+            let only = cursor.expect(Mark::Semicolon)?;
+            return Ok(Ended {
+                tree: None,
+                depth: 0,
+                last: only.span,
+            });
         }
-    }
-
-    fn method_ending(
-        &self,
-        cursor: &mut Cursor<'_>,
-        head: MethodHead<'_>,
-        ty: Option<TypeTree>,
-        signature: Signature,
-    ) -> Result<Ended<MemberNode>, ParseError>
-        requires room { self.now.room < 1000 }
-        requires side { cursor.old.note ≡ false }
-        ensures reads { Reads (ended member_form) (views.method_ending self.now.room (measured optional_spec_view head.entry.spec) head.entry.modifiers ty (lexeme head.entry.name) (signature_seen signature) (seen cursor.old)) result (seen cursor.new) }
-        ensures kept { IsKept cursor.old cursor.new }
-    {
-        let body = self.method_body(cursor)?;
-        Ok(make_method(self.alloc, head, ty, signature, body)?)
+        let body = Statements {
+            alloc: self.alloc,
+            room: self.room,
+            statement,
+        }
+        .braced(cursor)?;
+        Ok(some_body(body))
     }
 
     /// A method, behind its name.
@@ -100,27 +62,8 @@ impl Files {
         ensures kept { IsKept cursor.old cursor.new }
     {
         let signature = self.signature(cursor)?;
-        self.method_ending(cursor, head, ty, signature)
-    }
-
-    fn constructor_ending(
-        &self,
-        cursor: &mut Cursor<'_>,
-        head: MethodHead<'_>,
-        signature: Signature,
-    ) -> Result<Ended<MemberNode>, ParseError>
-        requires room { self.now.room < 1000 }
-        requires side { cursor.old.note ≡ false }
-        ensures reads { Reads (ended member_form) (views.constructor_ending self.now.room (measured optional_spec_view head.entry.spec) head.entry.modifiers (lexeme head.entry.name) (signature_seen signature) (seen cursor.old)) result (seen cursor.new) }
-        ensures kept { IsKept cursor.old cursor.new }
-    {
-        let body = Statements {
-            alloc: self.alloc,
-            room: self.room,
-            statement,
-        }
-        .constructor_body(cursor)?;
-        Ok(make_constructor(self.alloc, head, signature, body)?)
+        let body = self.method_body(cursor)?;
+        Ok(make_method(self.alloc, head, ty, signature, body)?)
     }
 
     /// A constructor, behind its name.
@@ -136,7 +79,13 @@ impl Files {
         ensures kept { IsKept cursor.old cursor.new }
     {
         let signature = self.signature(cursor)?;
-        self.constructor_ending(cursor, head, signature)
+        let body = Statements {
+            alloc: self.alloc,
+            room: self.room,
+            statement,
+        }
+        .constructor_body(cursor)?;
+        Ok(make_constructor(self.alloc, head, signature, body)?)
     }
 
     /// A method without a result, behind its modifiers.

@@ -29,7 +29,7 @@ impl Parts {
         let first = take_word(cursor, b"assert")?;
         let e = self.whole(cursor)?;
         let last = cursor.expect(Mark::Semicolon)?;
-        Ok(make_assertion(first, e, last))
+        Ok(make_assertion(self.alloc, first, e, last)?)
     }
 
     #[tactic(auto, unfolding(crate::specs::StatementReading::set_))]
@@ -45,7 +45,7 @@ impl Parts {
         let equals = take_sign(cursor, b"=")?;
         let value = self.whole(cursor)?;
         let last = cursor.expect(Mark::Semicolon)?;
-        Ok(make_set(first, target, equals, value, last))
+        Ok(make_set(self.alloc, first, target, equals, value, last)?)
     }
 
     #[tactic(auto, unfolding(crate::specs::StatementReading::ghost_head))]

@@ -8,7 +8,6 @@ ghost use Rattle.jesc_jml_grammar.specs.ClauseSeen.{measured, ended, note_rule};
 ghost use Rattle.jesc_jml_grammar.specs.Seen.{seen, lexeme, IsKept};
 ghost use Rattle.jesc_jml_grammar.specs.Steps.{Reads};
 ghost use Rattle.jesc_java_grammar.specs.FileReading as spec;
-ghost use Rattle.jesc_java_grammar.specs.ClassViews as views;
 ghost use Rattle.jesc_java_grammar.specs.Views.{part};
 
 use crate::files::Files;
@@ -167,25 +166,6 @@ impl Files {
         self.java_form(cursor, some_spec(t), List::new(self.alloc))
     }
 
-    fn noted_by(
-        &self,
-        cursor: &mut Cursor<'_>,
-        words: List<Word>,
-        word: NoteWord,
-    ) -> Result<Ended<MemberNode>, ParseError>
-        requires room { self.now.room < 1000 }
-        requires side { cursor.old.note ≡ false }
-        ensures reads { Reads (ended member_form) (part spec.noted_by self.now.room words word (seen cursor.old)) result (seen cursor.new) }
-        ensures kept { IsKept cursor.old cursor.new }
-    {
-        match word {
-            NoteWord::Invariant | NoteWord::Represents | NoteWord::Field => {
-                self.note_form(cursor, words)
-            }
-            _ => self.bare_form(cursor, words),
-        }
-    }
-
     /// A member behind modifiers of an annotation, of which more may come.
     #[tactic(auto, unfolding(crate::specs::FileReading::noted_form))]
     pub fn noted_form(
@@ -199,22 +179,12 @@ impl Files {
         ensures kept { IsKept cursor.old cursor.new }
     {
         let all = self.note_modifiers(cursor, words)?;
-        let word = cursor.peek_word();
-        self.noted_by(cursor, all, word)
-    }
-
-    fn noted_behind(
-        &self,
-        cursor: &mut Cursor<'_>,
-        visibility: Lexeme<'_>,
-    ) -> Result<Ended<MemberNode>, ParseError>
-        requires room { self.now.room < 1000 }
-        requires side { cursor.old.note ≡ false }
-        ensures reads { Reads (ended member_form) (views.noted_behind self.now.room (lexeme visibility.entry) (seen cursor.old)) result (seen cursor.new) }
-        ensures kept { IsKept cursor.old cursor.new }
-    {
-        let words = with_word(self.alloc, List::new(self.alloc), visibility)?;
-        self.noted_form(cursor, words)
+        match cursor.peek_word() {
+            NoteWord::Invariant | NoteWord::Represents | NoteWord::Field => {
+                self.note_form(cursor, all)
+            }
+            _ => self.bare_form(cursor, all),
+        }
     }
 
     /// A member that begins with the visibility of an annotation.
@@ -227,9 +197,9 @@ impl Files {
     {
         let visibility = cursor.expect_word(NoteWord::Visibility)?;
         if is_heading_word(cursor.peek_word()) {
-            self.specified_behind(cursor, visibility)
-        } else {
-            self.noted_behind(cursor, visibility)
+            return self.specified_behind(cursor, visibility);
         }
+        let words = with_word(self.alloc, List::new(self.alloc), visibility)?;
+        self.noted_form(cursor, words)
     }
 }

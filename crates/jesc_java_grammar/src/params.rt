@@ -66,21 +66,6 @@ impl Files {
         Err(ParseError::Fault(Fault::Long))
     }
 
-    /// A parameter, behind its modifiers.
-    fn typed_param(
-        &self,
-        cursor: &mut Cursor<'_>,
-        words: List<Word>,
-    ) -> Result<ParamTree, ParseError>
-        requires side { cursor.old.note ≡ false }
-        ensures reads { Reads (λ t. t) (views.typed_param self.now.room words (seen cursor.old)) result (seen cursor.new) }
-        ensures kept { IsKept cursor.old cursor.new }
-    {
-        let ty = self.code_type(cursor)?;
-        let x = cursor.expect(Mark::Name)?;
-        Ok(make_param(self.alloc, words, ty, x)?)
-    }
-
     /// A parameter.
     #[tactic(auto, unfolding(crate::specs::FileReading::param))]
     fn param(&self, cursor: &mut Cursor<'_>) -> Result<ParamTree, ParseError>
@@ -89,7 +74,9 @@ impl Files {
         ensures kept { IsKept cursor.old cursor.new }
     {
         let words = self.param_modifiers(cursor)?;
-        self.typed_param(cursor, words)
+        let ty = self.code_type(cursor)?;
+        let x = cursor.expect(Mark::Name)?;
+        Ok(make_param(self.alloc, words, ty, x)?)
     }
 
     /// Behind a comma a parameter.

@@ -13,6 +13,8 @@ use jesc_jml_grammar::expr::expr;
 use jesc_jml_grammar::fault::ParseError;
 use jesc_jml_grammar::found::{Found, Start};
 use jesc_jml_grammar::grammar::Grammar;
+use jesc_jml_grammar::mark::Mark;
+use jesc_jml_grammar::step::same_mark;
 use std::alloc::Global;
 
 /// The rules of one statement.
@@ -87,15 +89,48 @@ impl Parts {
         .climb(cursor, 11, self.room, first)
     }
 
+    /// The beginning in parentheses. No cast stands there, so that a bracket behind a name is that of an index.
+    #[tactic(auto, unfolding(crate::specs::StatementReading::headed_group))]
+    fn headed_group(&self, cursor: &mut Cursor<'_>) -> Result<Found, ParseError>
+        requires room { self.now.room < 1000 }
+        requires some { 2 < self.now.room }
+        ensures reads { Reads parsed (part spec.headed_group self.now.room cursor.old.note (seen cursor.old)) result (seen cursor.new) }
+        ensures kept { IsKept cursor.old cursor.new }
+        ensures bounded { IfOk result (λ f. f.depth ≤ self.now.room) }
+    {
+        let first = cursor.expect(Mark::LeftParen)?;
+        let inner = Grammar {
+            alloc: self.alloc,
+            room: self.room - 2,
+            quantifiers: QUANTIFIERS,
+            expr,
+        };
+        match cursor.peek() {
+            Mark::Forall | Mark::Exists => inner.quantified(cursor, first),
+            Mark::Name => {
+                let x = cursor.expect(Mark::Name)?;
+                inner.grouped(cursor, first, Start::BehindName(x))
+            }
+            _ => inner.grouped(cursor, first, Start::AtFirst),
+        }
+    }
+
     /// The beginning of what is neither a target nor a call yet, and so has a node above it.
+    #[tactic(auto, unfolding(crate::specs::StatementReading::headed_first))]
     pub fn headed_first(&self, cursor: &mut Cursor<'_>) -> Result<Found, ParseError>
         requires room { self.now.room < 1000 }
         ensures reads { Reads parsed (part spec.headed_first self.now.room cursor.old.note (seen cursor.old)) result (seen cursor.new) }
         ensures kept { IsKept cursor.old cursor.new }
         ensures bounded { IfOk result (λ f. f.depth ≤ self.now.room) }
     {
-        let inner = self.room.saturating_sub(1);
-        expr(self.alloc, cursor, inner, QUANTIFIERS, 13, Start::AtFirst)
+        if !same_mark(cursor.peek(), Mark::LeftParen) {
+            let inner = self.room.saturating_sub(1);
+            return expr(self.alloc, cursor, inner, QUANTIFIERS, 13, Start::AtFirst);
+        }
+        if self.room <= 2 {
+            return Err(cursor.too_deep());
+        }
+        self.headed_group(cursor)
     }
 
     /// What begins otherwise than with a name, and goes on.

@@ -89,7 +89,7 @@ impl Parts {
             return self.changed(cursor, a);
         }
         if calls && is_call(&a.expr) {
-            return Ok(make_call(a));
+            return Ok(make_call(self.alloc, a)?);
         }
         Err(cursor.refuse())
     }

@@ -45,7 +45,7 @@ impl Parts {
         .arguments(cursor)?;
         cursor.expect(Mark::RightParen)?;
         let last = cursor.expect(Mark::Semicolon)?;
-        Ok(make_super(first, args, last))
+        Ok(make_super(self.alloc, first, args, last)?)
     }
 
     #[tactic(auto, unfolding(crate::specs::StatementReading::super_method))]

@@ -73,7 +73,7 @@ impl Parts {
         let first = take_word(cursor, b"return")?;
         let value = self.optional_value(cursor, Mark::Semicolon)?;
         let last = cursor.expect(Mark::Semicolon)?;
-        Ok(make_return(first, value, last))
+        Ok(make_return(self.alloc, first, value, last)?)
     }
 
     #[tactic(auto, unfolding(crate::specs::StatementReading::thrown))]
@@ -87,7 +87,7 @@ impl Parts {
         let first = take_word(cursor, b"throw")?;
         let value = self.whole(cursor)?;
         let last = cursor.expect(Mark::Semicolon)?;
-        Ok(make_throw(first, value, last))
+        Ok(make_throw(self.alloc, first, value, last)?)
     }
 
     #[tactic(auto, unfolding(crate::specs::StatementReading::broken))]
@@ -99,7 +99,7 @@ impl Parts {
     {
         let first = take_word(cursor, b"break")?;
         let last = cursor.expect(Mark::Semicolon)?;
-        Ok(make_break(first, last))
+        Ok(make_break(self.alloc, first, last)?)
     }
 
     #[tactic(auto, unfolding(crate::specs::StatementReading::continued))]
@@ -111,7 +111,7 @@ impl Parts {
     {
         let first = take_word(cursor, b"continue")?;
         let last = cursor.expect(Mark::Semicolon)?;
-        Ok(make_continue(first, last))
+        Ok(make_continue(self.alloc, first, last)?)
     }
 
     /// A lone semicolon.
@@ -123,6 +123,6 @@ impl Parts {
         ensures bounded { IfOk result (λ f. f.depth ≤ self.now.room + 1) }
     {
         let only = cursor.expect(Mark::Semicolon)?;
-        Ok(make_empty(only))
+        Ok(make_empty(self.alloc, only)?)
     }
 }

@@ -4,7 +4,7 @@ use Rattle.jesc_jml_grammar.specs.Reading.{turns}
 use Rattle.jesc_jml_grammar.specs.Seen.{seen, IsKept}
 use Rattle.jesc_jml_grammar.specs.ClauseSeen.{measured}
 use Rattle.jesc_java_grammar.specs.StatementSeen.{catches_left}
-use Rattle.jesc_java_grammar.specs.Views.{catch_view}
+use Rattle.jesc_ast.specs.Trees.{catch_view}
 use Rattle.jesc_java_grammar.proofs.body.Statements.catches.Given as goal
 
 abbrev pub invariant-loop-turn : goal.invariant-loop-turn
