@@ -10,9 +10,9 @@ use Rattle.jesc_ast.specs.Statements.{is_loop, is_branch, SpellsStatement, is_bl
 use Rattle.jesc_jml_grammar.specs.declared.mark.Mark.TheVariants as m
 use Rattle.jesc_jml_grammar.specs.Steps.{Parser, mark_at, same_mark}
 use Rattle.jesc_jml_grammar.specs.Reading.{Parsed, Start}
-use Rattle.jesc_jml_parser.specs.SoundSteps.{Gives, gives_bind, gives_if, gives_so, TakesWhole}
+use Rattle.jesc_jml_parser.specs.laws.SoundSteps.{Gives, gives_bind, gives_if, gives_so, TakesWhole}
 use Rattle.jesc_jml_grammar.specs.ClauseFound.{Sized, no_items, with_more}
-use Rattle.jesc_jml_parser.specs.ClauseSoundLists.{TakenAs, until_takes, IsRead, IsGreatest, read_more, read_none}
+use Rattle.jesc_jml_parser.specs.laws.ClauseSoundLists.{TakenAs, until_takes, IsRead, IsGreatest, read_more, read_none}
 use Rattle.jesc_java_grammar.specs.declared.statement_mark.Slot.{Slot}
 use Rattle.jesc_java_grammar.specs.declared.statement_mark.Slot.TheVariants as slots
 use Rattle.jesc_java_grammar.specs.Lexing.{is_sign, next_is, take_if}
@@ -151,7 +151,7 @@ module _ (limit room : ℕ) (expression : Bool → ℕ → ℕ → ℕ → Start
       }))
 
   pub block_takes : (ts : List Lexeme) → Gives (spec.block_ limit room expression k statement ts) (TakenAs (IsPlainRead (suc room) k) ts)
-  unfolding spec.block_ spec.block_behind
+  unfolding spec.block_
   block_takes ts =
       gives_bind _ _ (take_if (is_sign (codes "{") false) ts) (took_this_sign (codes "{") false ts) (λ p mid left.
       gives_bind _ _ (spec.body_rest limit room expression k statement no_items mid) (rest_takes no_items (none_behind room k) mid) (λ b rest h.

@@ -10,10 +10,10 @@ use Rattle.jesc_jml_grammar.specs.declared.mark.Mark.TheVariants as m
 use Rattle.jesc_jml_grammar.specs.Marks.{lexeme_mark}
 use Rattle.jesc_jml_grammar.specs.Steps.{Parser, ◌>>◌, pure, expect}
 use Rattle.jesc_jml_grammar.specs.Reading.{Parsed, Start}
-use Rattle.jesc_jml_parser.specs.SoundMarks.{marked}
-use Rattle.jesc_jml_parser.specs.SoundSteps.{Gives, gives_bind, gives_if, gives_so, took, TakesWhole}
+use Rattle.jesc_jml_parser.specs.laws.SoundMarks.{marked}
+use Rattle.jesc_jml_parser.specs.laws.SoundSteps.{Gives, gives_bind, gives_if, gives_so, took, TakesWhole}
 use Rattle.jesc_jml_grammar.specs.ClauseFound.{Sized, no_items, with_more}
-use Rattle.jesc_jml_parser.specs.ClauseSoundLists.{TakenAs, TakenUntil, until_takes, IsRead, IsGreatest, read_more, read_first}
+use Rattle.jesc_jml_parser.specs.laws.ClauseSoundLists.{TakenAs, TakenUntil, until_takes, IsRead, IsGreatest, read_more, read_first}
 use Rattle.jesc_java_grammar.specs.declared.statement_mark.Slot.{Slot}
 use Rattle.jesc_java_grammar.specs.Lexing.{is_word, next_is, take_if}
 use Rattle.jesc_java_grammar.specs.StatementReading as spec

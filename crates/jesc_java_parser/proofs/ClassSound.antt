@@ -13,9 +13,9 @@ use Rattle.jesc_jml_grammar.specs.Steps.{Parser, ◌>>=◌, ◌>>◌, pure, expe
 use Rattle.jesc_jml_grammar.specs.Reading.{Parsed, Start, word_of}
 use Rattle.jesc_jml_grammar.specs.ClauseMarks.{span_at}
 use Rattle.jesc_jml_grammar.specs.ClauseFound.{Sized, no_items, with_more, with_word}
-use Rattle.jesc_jml_parser.specs.SoundMarks.{marked}
-use Rattle.jesc_jml_parser.specs.SoundSteps.{Gives, gives_bind, gives_if, gives_so, took, TakesWhole}
-use Rattle.jesc_jml_parser.specs.ClauseSoundLists.{end_of, IsSome, some_behind, taken_span, TakenAs, TakenUntil, until_takes, IsRead, IsGreatest, read_more, read_none, one_name}
+use Rattle.jesc_jml_parser.specs.laws.SoundMarks.{marked}
+use Rattle.jesc_jml_parser.specs.laws.SoundSteps.{Gives, gives_bind, gives_if, gives_so, took, TakesWhole}
+use Rattle.jesc_jml_parser.specs.laws.ClauseSoundLists.{end_of, IsSome, some_behind, taken_span, TakenAs, TakenUntil, until_takes, IsRead, IsGreatest, read_more, read_none, one_name}
 use Rattle.jesc_java_grammar.specs.declared.member_mark.MemberMark.{MemberMark}
 use Rattle.jesc_java_grammar.specs.declared.member_mark.MemberMark.TheVariants as s
 use Rattle.jesc_java_grammar.specs.Lexing.{is_word, is_sign, next_is, take_if}

@@ -16,14 +16,14 @@ use Rattle.jesc_jml_grammar.specs.Marks as marks
 use Rattle.jesc_jml_grammar.specs.Marks.{lexeme_mark}
 use Rattle.jesc_jml_grammar.specs.Steps.{mark_at, same_mark}
 use Rattle.jesc_jml_grammar.specs.Reading.{Parsed, at_first, casts, expr}
-use Rattle.jesc_jml_parser.specs.Edges.{goes_on}
-use Rattle.jesc_jml_parser.specs.CompleteMarks.{sign_at, name_at, is_primitive_mark, primitive_at, took_sign, took_name}
-use Rattle.jesc_jml_parser.specs.CompleteEdges.{closed_by, positive}
-use Rattle.jesc_jml_parser.specs.CompleteSteps.{parsed}
-use Rattle.jesc_jml_parser.specs.CompleteArguments.{Closes}
-use Rattle.jesc_jml_parser.specs.CompleteLonger.{type_is}
-use Rattle.jesc_jml_parser.specs.Complete.{expr_complete}
-use Rattle.jesc_jml_parser.specs.ClauseSoundMarks.{of_one_of}
+use Rattle.jesc_jml_parser.specs.laws.Edges.{goes_on}
+use Rattle.jesc_jml_parser.specs.laws.CompleteMarks.{sign_at, name_at, is_primitive_mark, primitive_at, took_sign, took_name}
+use Rattle.jesc_jml_parser.specs.laws.CompleteEdges.{closed_by, positive}
+use Rattle.jesc_jml_parser.specs.laws.CompleteSteps.{parsed}
+use Rattle.jesc_jml_parser.specs.laws.CompleteArguments.{Closes}
+use Rattle.jesc_jml_parser.specs.laws.CompleteLonger.{type_is}
+use Rattle.jesc_jml_parser.specs.laws.Complete.{expr_complete}
+use Rattle.jesc_jml_parser.specs.laws.ClauseSoundMarks.{of_one_of}
 use Rattle.jesc_java_grammar.specs.Lexing.{is_word, is_sign}
 use Rattle.jesc_java_grammar.specs.StatementMarks.{statement_mark_at, is_assign, is_step}
 use Rattle.jesc_java_grammar.specs.FileReading.{expression_of}

@@ -8,9 +8,9 @@ use Rattle.jesc_ast.specs.Statements.{Simple, declares, assigns, calls, SpellsSi
 use Rattle.jesc_jml_grammar.specs.declared.mark.Mark.{Mark}
 use Rattle.jesc_jml_grammar.specs.declared.mark.Mark.TheVariants as m
 use Rattle.jesc_jml_grammar.specs.Steps.{Parser, mark_at}
-use Rattle.jesc_jml_parser.specs.CompleteMarks.{took_sign, opens_first}
+use Rattle.jesc_jml_parser.specs.laws.CompleteMarks.{took_sign, opens_first}
 use Rattle.jesc_jml_grammar.specs.ClauseReading.{Sized, sized}
-use Rattle.jesc_jml_parser.specs.ClauseCompleteLists.{read_as}
+use Rattle.jesc_jml_parser.specs.laws.ClauseCompleteLists.{read_as}
 use Rattle.jesc_java_grammar.specs.declared.statement_mark.StatementMark.{StatementMark}
 use Rattle.jesc_java_grammar.specs.declared.statement_mark.StatementMark.TheVariants as s
 use Rattle.jesc_java_grammar.specs.declared.statement_mark.Slot.{Slot}

@@ -10,10 +10,10 @@ use Rattle.jesc_ast.specs.Depth.{depth, nesting, of_option, of_clauses, of_optio
 use Rattle.jesc_ast.specs.Statements.{statement_span, SpellsOption, SpellsInvariants, no_clauses, more_clauses, may_begin_for, may_end_turn, SpellsHeadPart, is_loop, is_branch}
 use Rattle.jesc_jml_grammar.specs.declared.mark.Mark.TheVariants as m
 use Rattle.jesc_jml_grammar.specs.Steps.{Parser}
-use Rattle.jesc_jml_parser.specs.CompleteMarks.{took_sign}
-use Rattle.jesc_jml_parser.specs.CompleteSteps.{depth_positive}
+use Rattle.jesc_jml_parser.specs.laws.CompleteMarks.{took_sign}
+use Rattle.jesc_jml_parser.specs.laws.CompleteSteps.{depth_positive}
 use Rattle.jesc_jml_grammar.specs.ClauseReading.{Sized, sized}
-use Rattle.jesc_jml_parser.specs.ClauseCompleteLists.{read_as}
+use Rattle.jesc_jml_parser.specs.laws.ClauseCompleteLists.{read_as}
 use Rattle.jesc_java_grammar.specs.declared.statement_mark.StatementMark.{StatementMark}
 use Rattle.jesc_java_grammar.specs.declared.statement_mark.StatementMark.TheVariants as s
 use Rattle.jesc_java_grammar.specs.declared.statement_mark.Slot.{Slot}
@@ -101,7 +101,7 @@ branch_else_is limit r p q o test first other u v t h read no_loop no_branch mor
 
 module _ (limit room quantifiers : ℕ) where
   abbrev loop_parser : Parser (Sized Statement)
-  loop_parser = spec.loop limit room (expression_of limit) quantifiers (inside limit room quantifiers)
+  loop_parser = spec.loop_ limit room (expression_of limit) quantifiers (inside limit room quantifiers)
 
   -- before `while` or `for`, or invariants before these
   loop_begun : (slot : Slot) (cs : List Clause) (t : List Lexeme) → SpellsInvariants cs t → (ts : List Lexeme) → allows_loop slot ≡ true → nat_lt 0 room ≡ true
@@ -124,7 +124,7 @@ module _ (limit room quantifiers : ℕ) where
   loop_is : (cs : List Clause) (t ts : List Lexeme) (mark : StatementMark) → SpellsInvariants cs t → of_clauses depth 1 cs ≤ room → of_clauses nesting 0 cs ≤ quantifiers → length t < limit
       → next_is is_invariant ts ≡ false → statement_mark_at ts ≡ mark
       → loop_parser (t ++ ts) ≡ spec.loop_by limit room (expression_of limit) quantifiers (inside limit room quantifiers) (sized cs (of_clauses depth 1 cs)) mark ts
-  unfolding spec.loop
+  unfolding spec.loop_
   loop_is cs t ts mark h deep flat short none at = rw (invariants_read limit room quantifiers cs t h ts deep flat short none) (rw at refl)
 
   while_read : (cs : Sized (List Clause)) (r p q : Span) (test : Expression) (turn : Statement) (u v rest : List Lexeme) (h : SpellsExpression false test u) → IsStatement limit turn v

@@ -8,10 +8,10 @@ use Rattle.jesc_ast.specs.Depth.{depth, nesting, of_body, of_catches}
 use Rattle.jesc_ast.specs.Statements.{body_end, catches_end, SpellsFinal, is_final_word, no_final_word}
 use Rattle.jesc_jml_grammar.specs.declared.mark.Mark.TheVariants as marks
 use Rattle.jesc_jml_grammar.specs.Steps.{Outcome}
-use Rattle.jesc_jml_parser.specs.CompleteMarks.{took_sign, took_name}
+use Rattle.jesc_jml_parser.specs.laws.CompleteMarks.{took_sign, took_name}
 use Rattle.jesc_jml_grammar.specs.ClauseLists.{until}
 use Rattle.jesc_jml_grammar.specs.ClauseReading.{Sized, sized, no_items, with_more}
-use Rattle.jesc_jml_parser.specs.ClauseCompleteLists.{read_as, until_more, until_ends}
+use Rattle.jesc_jml_parser.specs.laws.ClauseCompleteLists.{read_as, until_more, until_ends}
 use Rattle.jesc_java_grammar.specs.declared.statement_mark.StatementMark.TheVariants as s
 use Rattle.jesc_java_grammar.specs.Lexing.{is_word, next_is}
 use Rattle.jesc_java_grammar.specs.StatementMarks.{statement_mark_at}

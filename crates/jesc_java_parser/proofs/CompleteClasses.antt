@@ -10,11 +10,11 @@ use Rattle.jesc_ast.specs.Specifications.{SpellsNames, last_name, first_name}
 use Rattle.jesc_ast.specs.Members.{SpellsModifiers, SpellsNamesAfter, no_names, some_names, SpellsMembers, is_one_or_none, SpellsClass, is_class, is_interface}
 use Rattle.jesc_jml_grammar.specs.declared.mark.Mark.TheVariants as m
 use Rattle.jesc_jml_grammar.specs.Steps.{Parser, mark_at, same_mark}
-use Rattle.jesc_jml_parser.specs.CompleteMarks.{took_name}
+use Rattle.jesc_jml_parser.specs.laws.CompleteMarks.{took_name}
 use Rattle.jesc_jml_grammar.specs.ClauseMarks.{span_at}
 use Rattle.jesc_jml_grammar.specs.ClauseReading.{Sized, sized}
-use Rattle.jesc_jml_parser.specs.ClauseSoundLists.{end_of, end_of_both, IsSome, some_behind, taken_span}
-use Rattle.jesc_jml_parser.specs.ClauseCompleteLists.{read_as}
+use Rattle.jesc_jml_parser.specs.laws.ClauseSoundLists.{end_of, end_of_both, IsSome, some_behind, taken_span}
+use Rattle.jesc_jml_parser.specs.laws.ClauseCompleteLists.{read_as}
 use Rattle.jesc_java_grammar.specs.Lexing.{is_word, is_sign, next_is}
 use Rattle.jesc_java_grammar.specs.FileMarks.{member_mark_at, at_modifier, at_code}
 use Rattle.jesc_java_grammar.specs.FileReading as spec

@@ -16,12 +16,12 @@ use Rattle.jesc_jml_grammar.specs.Marks.{lexeme_mark}
 use Rattle.jesc_jml_grammar.specs.Steps.{Outcome, Parser, and_then, ◌>>=◌, mark_at, same_mark, expect}
 use Rattle.jesc_jml_grammar.specs.Reading as reading
 use Rattle.jesc_jml_grammar.specs.Reading.{Parsed, at_first, expr}
-use Rattle.jesc_jml_parser.specs.CompleteMarks.{word_at, took, took_sign, same_mark_is}
-use Rattle.jesc_jml_parser.specs.CompleteArguments.{expressions_of_list}
-use Rattle.jesc_jml_parser.specs.CompleteLeaves.{first_is}
-use Rattle.jesc_jml_parser.specs.Complete.{arguments_complete}
+use Rattle.jesc_jml_parser.specs.laws.CompleteMarks.{word_at, took, took_sign, same_mark_is}
+use Rattle.jesc_jml_parser.specs.laws.CompleteArguments.{expressions_of_list}
+use Rattle.jesc_jml_parser.specs.laws.CompleteLeaves.{first_is}
+use Rattle.jesc_jml_parser.specs.laws.Complete.{arguments_complete}
 use Rattle.jesc_jml_grammar.specs.ClauseReading.{Sized, sized, no_items, with_more}
-use Rattle.jesc_jml_parser.specs.ClauseCompleteLists.{read_as}
+use Rattle.jesc_jml_parser.specs.laws.ClauseCompleteLists.{read_as}
 use Rattle.jesc_java_grammar.specs.declared.statement_mark.StatementMark.TheVariants as s
 use Rattle.jesc_java_grammar.specs.declared.statement_mark.Slot.TheVariants as slots
 use Rattle.jesc_java_grammar.specs.Lexing.{is_sign}

@@ -6,7 +6,7 @@ use Rattle.jesc_ast.specs.Lexemes.{Lexeme, word}
 use Rattle.jesc_ast.specs.Trees.{Clause, Statement, branch, while_loop, for_loop, attempt, no_statement, one_statement}
 use Rattle.jesc_ast.specs.Statements.{SpellsSimple, is_local, is_final_local, is_assignment, is_step_after, is_step_before, is_call_alone, Simple, SpellsClauses, no_clauses, more_clauses, SpellsStatement, is_block, is_simple, is_while, is_for, is_body, is_loop, is_branch, is_step_sign}
 use Rattle.jesc_jml_grammar.specs.Steps.{mark_at}
-use Rattle.jesc_jml_parser.specs.CompleteMarks.{opens_first}
+use Rattle.jesc_jml_parser.specs.laws.CompleteMarks.{opens_first}
 use Rattle.jesc_java_grammar.specs.Lexing.{next_is, is_word}
 use Rattle.jesc_java_grammar.specs.StatementMarks.{statement_mark_at}
 use Rattle.jesc_java_parser.proofs.CompleteLexing.{none_of, assign_signs, is_plain, plain_opens, plain_at, is_starting}

@@ -15,12 +15,12 @@ use Rattle.jesc_jml_grammar.specs.ClauseMarks.{plain_word, note_word, word_at, s
 use Rattle.jesc_jml_grammar.specs.ClauseLists.{separated}
 use Rattle.jesc_jml_grammar.specs.ClauseReading as clauses
 use Rattle.jesc_jml_grammar.specs.ClauseReading.{Sized, Ended, with_word}
-use Rattle.jesc_jml_parser.specs.ClauseEdges.{has_none, cases_go_on, spec_goes_on}
-use Rattle.jesc_jml_parser.specs.ClauseSoundMarks.{of_one_of}
-use Rattle.jesc_jml_parser.specs.ClauseSoundLists.{IsSome}
-use Rattle.jesc_jml_parser.specs.ClauseCompleteLists.{took_note}
-use Rattle.jesc_jml_parser.specs.ClauseCompleteMembers as noted
-use Rattle.jesc_jml_parser.specs.ClauseCompleteSpecs.{specification_behind_is}
+use Rattle.jesc_jml_parser.specs.laws.ClauseEdges.{has_none, cases_go_on, spec_goes_on}
+use Rattle.jesc_jml_parser.specs.laws.ClauseSoundMarks.{of_one_of}
+use Rattle.jesc_jml_parser.specs.laws.ClauseSoundLists.{IsSome}
+use Rattle.jesc_jml_parser.specs.laws.ClauseCompleteLists.{took_note}
+use Rattle.jesc_jml_parser.specs.laws.ClauseCompleteMembers as noted
+use Rattle.jesc_jml_parser.specs.laws.ClauseCompleteSpecs.{specification_behind_is}
 use Rattle.jesc_java_grammar.specs.FileReading as spec
 use Rattle.jesc_java_grammar.specs.FileReading.{expression_of, no_spec, some_spec}
 use Rattle.jesc_java_parser.proofs.CompleteJava.{Specified}

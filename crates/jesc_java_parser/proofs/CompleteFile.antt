@@ -5,18 +5,17 @@ use Rattle.jesc_ast.specs.declared.word.Word.{Word}
 use Rattle.jesc_ast.specs.Lexemes.{Lexeme, sign, word, chosen_word, kept}
 use Rattle.jesc_ast.specs.FileTrees.{Class, SourceUnit, unit_of}
 use Rattle.jesc_ast.specs.Depth.{depth, nesting, of_members, of_classes}
-use Rattle.jesc_ast.specs.Members.{is_code_modifier, is_code_word, is_note_word, is_override, SpellsModifiers, no_modifiers, more_modifiers, SpellsClass, is_class, is_interface, SpellsClasses, no_classes, more_classes, SpellsDotted, last_part, first_part, SpellsPackage, no_package, some_package}
+use Rattle.jesc_ast.specs.Members.{SpellsUnit, is_code_modifier, is_code_word, is_note_word, is_override, SpellsModifiers, no_modifiers, more_modifiers, SpellsClass, is_class, is_interface, SpellsClasses, no_classes, more_classes, SpellsDotted, last_part, first_part, SpellsPackage, no_package, some_package}
 use Rattle.jesc_jml_grammar.specs.declared.mark.Mark.TheVariants as m
 use Rattle.jesc_jml_grammar.specs.Steps.{Parser, mark_at, same_mark, expect}
-use Rattle.jesc_jml_parser.specs.CompleteMarks.{took_sign, took_name}
+use Rattle.jesc_jml_parser.specs.laws.CompleteMarks.{took_sign, took_name}
 use Rattle.jesc_jml_grammar.specs.ClauseLists.{until, separated}
 use Rattle.jesc_jml_grammar.specs.ClauseReading.{Sized, sized, no_items, with_more, with_word}
-use Rattle.jesc_jml_parser.specs.ClauseCompleteLists.{read_as, until_more, until_ends, separated_ends, separated_more}
+use Rattle.jesc_jml_parser.specs.laws.ClauseCompleteLists.{read_as, until_more, until_ends, separated_ends, separated_more}
 use Rattle.jesc_java_grammar.specs.Lexing.{is_word, next_is}
 use Rattle.jesc_java_grammar.specs.FileMarks.{at_code, before_end}
 use Rattle.jesc_java_grammar.specs.FileReading as spec
 use Rattle.jesc_java_grammar.specs.FileReading.{expression_of}
-use Rattle.jesc_java_parser.specs.Units.{SpellsUnit}
 use Rattle.jesc_java_parser.proofs.CompleteLexing.{took_if, unlike}
 use Rattle.jesc_java_parser.proofs.CompleteClasses.{class_read}
 

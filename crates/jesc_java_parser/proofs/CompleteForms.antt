@@ -14,17 +14,17 @@ use Rattle.jesc_jml_grammar.specs.declared.note_word.NoteWord.{NoteWord}
 use Rattle.jesc_jml_grammar.specs.declared.note_word.NoteWord.TheVariants as w
 use Rattle.jesc_jml_grammar.specs.Marks.{lexeme_mark}
 use Rattle.jesc_jml_grammar.specs.Steps.{Outcome, Parser, mark_at, same_mark}
-use Rattle.jesc_jml_parser.specs.CompleteMarks.{took_sign}
+use Rattle.jesc_jml_parser.specs.laws.CompleteMarks.{took_sign}
 use Rattle.jesc_jml_grammar.specs.ClauseMarks.{word_at, is_heading_word, is_modifier_word}
 use Rattle.jesc_jml_grammar.specs.ClauseReading as clauses
 use Rattle.jesc_jml_grammar.specs.ClauseReading.{Sized, sized, Ended}
-use Rattle.jesc_jml_parser.specs.ClauseEdges.{member_goes_on}
-use Rattle.jesc_jml_parser.specs.ClauseSoundMarks.{of_one_of}
-use Rattle.jesc_jml_parser.specs.ClauseSoundLists.{end_of, end_of_both, IsSome, some_behind}
-use Rattle.jesc_jml_parser.specs.ClauseCompleteClauses.{ended_as}
-use Rattle.jesc_jml_parser.specs.ClauseCompleteLists.{read_as}
-use Rattle.jesc_jml_parser.specs.ClauseCompleteSpecs.{specification_complete}
-use Rattle.jesc_jml_parser.specs.ClauseComplete.{form_reads}
+use Rattle.jesc_jml_parser.specs.laws.ClauseEdges.{member_goes_on}
+use Rattle.jesc_jml_parser.specs.laws.ClauseSoundMarks.{of_one_of}
+use Rattle.jesc_jml_parser.specs.laws.ClauseSoundLists.{end_of, end_of_both, IsSome, some_behind}
+use Rattle.jesc_jml_parser.specs.laws.ClauseCompleteClauses.{ended_as}
+use Rattle.jesc_jml_parser.specs.laws.ClauseCompleteLists.{read_as}
+use Rattle.jesc_jml_parser.specs.laws.ClauseCompleteSpecs.{specification_complete}
+use Rattle.jesc_jml_parser.specs.laws.ClauseComplete.{form_reads}
 use Rattle.jesc_java_grammar.specs.FileReading as spec
 use Rattle.jesc_java_grammar.specs.FileReading.{expression_of}
 use Rattle.jesc_java_parser.proofs.CompleteModifiers.{code_modifiers, modifiers_read, split}

@@ -20,15 +20,15 @@ use Rattle.jesc_jml_grammar.specs.declared.note_word.NoteWord.{NoteWord}
 use Rattle.jesc_jml_grammar.specs.declared.note_word.NoteWord.TheVariants as w
 use Rattle.jesc_jml_grammar.specs.Marks.{lexeme_mark}
 use Rattle.jesc_jml_grammar.specs.Steps.{Outcome, Parser, mark_at, same_mark}
-use Rattle.jesc_jml_parser.specs.CompleteMarks.{name_at, is_primitive_mark, primitive_at, took_sign, took_name}
-use Rattle.jesc_jml_parser.specs.CompleteLonger.{plain_behind, array_behind}
+use Rattle.jesc_jml_parser.specs.laws.CompleteMarks.{name_at, is_primitive_mark, primitive_at, took_sign, took_name}
+use Rattle.jesc_jml_parser.specs.laws.CompleteLonger.{plain_behind, array_behind}
 use Rattle.jesc_jml_grammar.specs.ClauseMarks.{word_at, same_word}
 use Rattle.jesc_jml_grammar.specs.ClauseReading.{Sized, Ended}
-use Rattle.jesc_jml_parser.specs.ClauseEdges.{member_goes_on}
-use Rattle.jesc_jml_parser.specs.ClauseSoundLists.{end_of}
-use Rattle.jesc_jml_parser.specs.ClauseCompleteClauses.{ended_as}
-use Rattle.jesc_jml_parser.specs.ClauseCompleteLists.{read_as}
-use Rattle.jesc_jml_parser.specs.ClauseCompleteMembers.{groups_read}
+use Rattle.jesc_jml_parser.specs.laws.ClauseEdges.{member_goes_on}
+use Rattle.jesc_jml_parser.specs.laws.ClauseSoundLists.{end_of}
+use Rattle.jesc_jml_parser.specs.laws.ClauseCompleteClauses.{ended_as}
+use Rattle.jesc_jml_parser.specs.laws.ClauseCompleteLists.{read_as}
+use Rattle.jesc_jml_parser.specs.laws.ClauseCompleteMembers.{groups_read}
 use Rattle.jesc_java_grammar.specs.declared.member_mark.MemberMark.TheVariants as s
 use Rattle.jesc_java_grammar.specs.Lexing.{is_word, is_sign}
 use Rattle.jesc_java_grammar.specs.FileMarks.{member_mark_at}

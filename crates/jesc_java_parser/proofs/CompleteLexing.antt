@@ -12,7 +12,7 @@ use Rattle.jesc_jml_grammar.specs.Marks as marks
 use Rattle.jesc_jml_grammar.specs.Marks.{is_same_side, lexeme_mark, keyword_mark}
 use Rattle.jesc_jml_grammar.specs.Steps.{mark_at, take_one}
 use Rattle.jesc_jml_grammar.specs.Reading.{opens, is_type_mark}
-use Rattle.jesc_jml_parser.specs.CompleteMarks.{same_text}
+use Rattle.jesc_jml_parser.specs.laws.CompleteMarks.{same_text}
 use Rattle.jesc_java_grammar.specs.declared.statement_mark.StatementMark.{StatementMark}
 use Rattle.jesc_java_grammar.specs.declared.statement_mark.StatementMark.TheVariants as s
 use Rattle.jesc_java_grammar.specs.Lexing.{is_word_kind, is_sign_kind, is_word, is_sign, next_is, take_if, found_among}

@@ -8,7 +8,7 @@ use Rattle.jesc_ast.specs.Statements.{SpellsStatement, SpellsStatements, no_more
 use Rattle.jesc_jml_grammar.specs.Steps.{Outcome}
 use Rattle.jesc_jml_grammar.specs.ClauseLists.{until}
 use Rattle.jesc_jml_grammar.specs.ClauseReading.{Sized, sized, no_items, with_more}
-use Rattle.jesc_jml_parser.specs.ClauseCompleteLists.{read_as, until_more, until_ends}
+use Rattle.jesc_jml_parser.specs.laws.ClauseCompleteLists.{read_as, until_more, until_ends}
 use Rattle.jesc_java_grammar.specs.declared.statement_mark.StatementMark.TheVariants as s
 use Rattle.jesc_java_grammar.specs.declared.statement_mark.Slot.TheVariants as slots
 use Rattle.jesc_java_grammar.specs.Lexing.{is_word, is_sign, next_is}
@@ -121,7 +121,7 @@ module _ (limit room quantifiers : ℕ) where
       → of_statements nesting 0 ts ≤ quantifiers
       → spec.block_ limit room (expression_of limit) quantifiers (inside limit room quantifiers) (sign false "{" p ∷ (u ++ sign false "}" q ∷ rest))
       ≡ read_as (sized (block (join p q) (body ts q)) (of_statements depth 1 ts + 1)) rest
-  unfolding spec.block_ spec.block_behind
+  unfolding spec.block_
   block_read ts p q u read rest short deep flat =
       rw (took_if (is_sign (codes "{") false) (sign false "{" p) (u ++ sign false "}" q ∷ rest) refl) (rw (body_alone ts u read q rest short deep flat) refl)
 

@@ -15,13 +15,13 @@ use Rattle.jesc_jml_grammar.specs.declared.note_word.NoteWord.TheVariants as w
 use Rattle.jesc_jml_grammar.specs.Marks.{is_same_side}
 use Rattle.jesc_jml_grammar.specs.Steps.{Outcome, Parser, mark_at, same_mark}
 use Rattle.jesc_jml_grammar.specs.Reading as reading
-use Rattle.jesc_jml_parser.specs.CompleteMarks.{same_text}
+use Rattle.jesc_jml_parser.specs.laws.CompleteMarks.{same_text}
 use Rattle.jesc_jml_grammar.specs.ClauseMarks.{same_word, word_at, span_at}
 use Rattle.jesc_jml_grammar.specs.ClauseLists.{until}
 use Rattle.jesc_jml_grammar.specs.ClauseReading.{Sized, sized, Ended, no_items, with_more}
-use Rattle.jesc_jml_parser.specs.ClauseSoundMarks.{noted, noted_so, same_word_is}
-use Rattle.jesc_jml_parser.specs.ClauseSoundLists.{IsSome, taken_span}
-use Rattle.jesc_jml_parser.specs.ClauseCompleteLists.{read_as, until_more, until_ends}
+use Rattle.jesc_jml_parser.specs.laws.ClauseSoundMarks.{noted, noted_so, same_word_is}
+use Rattle.jesc_jml_parser.specs.laws.ClauseSoundLists.{IsSome, taken_span}
+use Rattle.jesc_jml_parser.specs.laws.ClauseCompleteLists.{read_as, until_more, until_ends}
 use Rattle.jesc_java_grammar.specs.Lexing.{is_sign_kind, is_sign, next_is}
 use Rattle.jesc_java_grammar.specs.FileMarks.{member_mark_at, before_brace}
 use Rattle.jesc_java_grammar.specs.FileReading as spec

@@ -13,11 +13,11 @@ use Rattle.jesc_jml_grammar.specs.declared.mark.Mark.TheVariants as m
 use Rattle.jesc_jml_grammar.specs.declared.note_word.NoteWord.TheVariants as w
 use Rattle.jesc_jml_grammar.specs.Steps.{Parser, mark_at, same_mark, expect}
 use Rattle.jesc_jml_grammar.specs.Reading.{word_of}
-use Rattle.jesc_jml_parser.specs.CompleteMarks.{took_sign, took_name}
+use Rattle.jesc_jml_parser.specs.laws.CompleteMarks.{took_sign, took_name}
 use Rattle.jesc_jml_grammar.specs.ClauseMarks.{word_at}
 use Rattle.jesc_jml_grammar.specs.ClauseLists.{until, separated}
 use Rattle.jesc_jml_grammar.specs.ClauseReading.{with_word}
-use Rattle.jesc_jml_parser.specs.ClauseCompleteLists.{read_as, until_more, until_ends, separated_ends, separated_more}
+use Rattle.jesc_jml_parser.specs.laws.ClauseCompleteLists.{read_as, until_more, until_ends, separated_ends, separated_more}
 use Rattle.jesc_java_grammar.specs.declared.member_mark.MemberMark.{MemberMark}
 use Rattle.jesc_java_grammar.specs.declared.member_mark.MemberMark.TheVariants as s
 use Rattle.jesc_java_grammar.specs.Lexing.{is_word, is_sign, next_is}

@@ -10,12 +10,12 @@ use Rattle.jesc_jml_grammar.specs.declared.mark.Mark.{Mark}
 use Rattle.jesc_jml_grammar.specs.declared.mark.Mark.TheVariants as m
 use Rattle.jesc_jml_grammar.specs.Steps.{mark_at, same_mark}
 use Rattle.jesc_jml_grammar.specs.Reading.{opens, is_type_mark}
-use Rattle.jesc_jml_parser.specs.CompleteMarks.{took_sign, opens_first}
-use Rattle.jesc_jml_parser.specs.CompleteSteps.{parsed}
-use Rattle.jesc_jml_parser.specs.CompleteArguments.{closes_semicolon, closes_paren}
+use Rattle.jesc_jml_parser.specs.laws.CompleteMarks.{took_sign, opens_first}
+use Rattle.jesc_jml_parser.specs.laws.CompleteSteps.{parsed}
+use Rattle.jesc_jml_parser.specs.laws.CompleteArguments.{closes_semicolon, closes_paren}
 use Rattle.jesc_jml_grammar.specs.ClauseLists.{until}
 use Rattle.jesc_jml_grammar.specs.ClauseReading.{Sized, sized, no_items, with_more}
-use Rattle.jesc_jml_parser.specs.ClauseCompleteLists.{read_as, until_more, until_ends}
+use Rattle.jesc_jml_parser.specs.laws.ClauseCompleteLists.{read_as, until_more, until_ends}
 use Rattle.jesc_java_grammar.specs.Lexing.{next_is}
 use Rattle.jesc_java_grammar.specs.StatementMarks.{is_invariant, is_invariant_text}
 use Rattle.jesc_java_grammar.specs.FileReading.{expression_of}

@@ -12,8 +12,8 @@ use Rattle.jesc_ast.specs.Statements as grammar
 use Rattle.jesc_ast.specs.Statements.{is_target, is_call, is_assign_sign, is_step_sign, Simple, declares, assigns, calls, SpellsSimple, is_local, is_final_local, is_assignment, is_step_after, is_step_before, is_call_alone}
 use Rattle.jesc_jml_grammar.specs.Marks.{lexeme_mark}
 use Rattle.jesc_jml_grammar.specs.Steps.{mark_at}
-use Rattle.jesc_jml_parser.specs.CompleteMarks.{name_at, type_word_at, opens_first}
-use Rattle.jesc_jml_parser.specs.CompleteSteps.{parsed, depth_positive}
+use Rattle.jesc_jml_parser.specs.laws.CompleteMarks.{name_at, type_word_at, opens_first}
+use Rattle.jesc_jml_parser.specs.laws.CompleteSteps.{parsed, depth_positive}
 use Rattle.jesc_java_grammar.specs.declared.statement_mark.StatementMark.TheVariants as s
 use Rattle.jesc_java_grammar.specs.StatementMarks.{statement_mark_at}
 use Rattle.jesc_java_grammar.specs.FileReading.{expression_of}

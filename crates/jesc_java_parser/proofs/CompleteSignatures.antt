@@ -16,13 +16,13 @@ use Rattle.jesc_jml_grammar.specs.declared.mark.Mark.TheVariants as m
 use Rattle.jesc_jml_grammar.specs.Steps.{Parser, mark_at, same_mark, expect}
 use Rattle.jesc_jml_grammar.specs.Reading as reading
 use Rattle.jesc_jml_grammar.specs.Reading.{is_type_mark, expr}
-use Rattle.jesc_jml_parser.specs.CompleteMarks.{name_at, type_word_at, took_sign, took_name}
-use Rattle.jesc_jml_parser.specs.CompleteLonger.{type_is}
+use Rattle.jesc_jml_parser.specs.laws.CompleteMarks.{name_at, type_word_at, took_sign, took_name}
+use Rattle.jesc_jml_parser.specs.laws.CompleteLonger.{type_is}
 use Rattle.jesc_jml_grammar.specs.ClauseLists.{until, separated}
 use Rattle.jesc_jml_grammar.specs.ClauseReading.{Ended, with_word}
-use Rattle.jesc_jml_parser.specs.ClauseSoundLists.{end_of, end_of_both}
-use Rattle.jesc_jml_parser.specs.ClauseCompleteClauses.{ended_as}
-use Rattle.jesc_jml_parser.specs.ClauseCompleteLists.{read_as, until_more, until_ends, separated_ends, separated_more}
+use Rattle.jesc_jml_parser.specs.laws.ClauseSoundLists.{end_of, end_of_both}
+use Rattle.jesc_jml_parser.specs.laws.ClauseCompleteClauses.{ended_as}
+use Rattle.jesc_jml_parser.specs.laws.ClauseCompleteLists.{read_as, until_more, until_ends, separated_ends, separated_more}
 use Rattle.jesc_java_grammar.specs.Lexing.{is_word, next_is, take_if}
 use Rattle.jesc_java_grammar.specs.FileMarks.{is_param_modifier, at_code}
 use Rattle.jesc_java_grammar.specs.FileReading as spec

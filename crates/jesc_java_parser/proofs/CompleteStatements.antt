@@ -10,7 +10,7 @@ use Rattle.jesc_ast.specs.Trees.{Expression, Statement, return, throw, break, co
 use Rattle.jesc_ast.specs.Depth.{depth, nesting, of_statement}
 use Rattle.jesc_ast.specs.Statements.{is_target, SpellsOption, SpellsStatement, is_block, is_simple, is_branch_alone, is_branch_else, is_while, is_for, is_return, is_throw, is_break, is_continue, is_empty, is_attempt, is_assertion, is_set, is_ghost_local, SpellsBody, is_body, SpellsStatements, no_more_statements, one_more_statement, SpellsCatches, no_more_catches, one_more_catch}
 use Rattle.jesc_jml_grammar.specs.Steps.{mark_at}
-use Rattle.jesc_jml_parser.specs.CompleteSteps.{depth_positive}
+use Rattle.jesc_jml_parser.specs.laws.CompleteSteps.{depth_positive}
 use Rattle.jesc_java_grammar.specs.declared.statement_mark.StatementMark.TheVariants as s
 use Rattle.jesc_java_grammar.specs.declared.statement_mark.Slot.{Slot}
 use Rattle.jesc_java_grammar.specs.StatementMarks.{statement_mark_at}

@@ -15,11 +15,11 @@ use Rattle.jesc_ast.specs.Members.{SpellsParams, SpellsNamesAfter, SpellsMethodB
 use Rattle.jesc_jml_grammar.specs.declared.mark.Mark.TheVariants as m
 use Rattle.jesc_jml_grammar.specs.declared.note_word.NoteWord.TheVariants as w
 use Rattle.jesc_jml_grammar.specs.Steps.{mark_at, same_mark}
-use Rattle.jesc_jml_parser.specs.CompleteMarks.{name_at, type_word_at}
+use Rattle.jesc_jml_parser.specs.laws.CompleteMarks.{name_at, type_word_at}
 use Rattle.jesc_jml_grammar.specs.ClauseMarks.{word_at}
-use Rattle.jesc_jml_parser.specs.ClauseSoundLists.{end_of, end_of_both, IsSome}
-use Rattle.jesc_jml_parser.specs.ClauseCompleteClauses.{ended_as}
-use Rattle.jesc_jml_parser.specs.ClauseCompleteLists.{read_as}
+use Rattle.jesc_jml_parser.specs.laws.ClauseSoundLists.{end_of, end_of_both, IsSome}
+use Rattle.jesc_jml_parser.specs.laws.ClauseCompleteClauses.{ended_as}
+use Rattle.jesc_jml_parser.specs.laws.ClauseCompleteLists.{read_as}
 use Rattle.jesc_java_grammar.specs.FileMarks.{member_mark_at, is_modifier_mark, at_modifier}
 use Rattle.jesc_java_grammar.specs.FileReading as spec
 use Rattle.jesc_java_grammar.specs.FileReading.{expression_of, no_spec}

@@ -13,19 +13,19 @@ use Rattle.jesc_jml_grammar.specs.declared.mark.Mark.{Mark}
 use Rattle.jesc_jml_grammar.specs.declared.mark.Mark.TheVariants as m
 use Rattle.jesc_jml_grammar.specs.Marks.{lexeme_mark}
 use Rattle.jesc_jml_grammar.specs.Steps.{Outcome, Parser, and_then, ◌>>=◌, mark_at, same_mark, expect}
-use Rattle.jesc_jml_grammar.specs.Refining.{bind_ok, ok_is}
+use Rattle.jesc_jml_grammar.specs.laws.Refining.{bind_ok, ok_is}
 use Rattle.jesc_jml_grammar.specs.Reading as reading
 use Rattle.jesc_jml_grammar.specs.Reading.{Parsed, Listed, Start, at_first, behind_name, behind_bracket, word_of, leaf, over, call_of, binds, needs, grows, expr}
-use Rattle.jesc_jml_parser.specs.Stable.{refines_climb, refines_expr}
-use Rattle.jesc_jml_parser.specs.SoundMarks.{marked}
-use Rattle.jesc_jml_parser.specs.SoundSteps.{Gives, gives_bind, gives_ok, Took, took}
-use Rattle.jesc_jml_parser.specs.SoundCalls.{TakenCall, called_takes}
-use Rattle.jesc_jml_parser.specs.Sound.{expr_takes}
-use Rattle.jesc_jml_parser.specs.CompleteArguments.{called_is, expressions_of_list, finished}
-use Rattle.jesc_jml_parser.specs.Complete.{arguments_complete}
-use Rattle.jesc_jml_parser.specs.DeepPlaces.{depth_of_taken}
+use Rattle.jesc_jml_parser.specs.laws.Stable.{refines_climb, refines_expr}
+use Rattle.jesc_jml_parser.specs.laws.SoundMarks.{marked}
+use Rattle.jesc_jml_parser.specs.laws.SoundSteps.{Gives, gives_bind, gives_so, gives_ok, Took, took, Taken}
+use Rattle.jesc_jml_parser.specs.laws.SoundCalls.{TakenCall, called_takes}
+use Rattle.jesc_jml_parser.specs.laws.Sound.{expr_takes}
+use Rattle.jesc_jml_parser.specs.laws.CompleteArguments.{called_is, expressions_of_list, finished}
+use Rattle.jesc_jml_parser.specs.laws.Complete.{arguments_complete}
 use Rattle.jesc_java_grammar.specs.FileReading.{expression_of}
 use Rattle.jesc_java_grammar.specs.StatementReading as spec
+use Rattle.jesc_java_parser.proofs.PieceSound.{headed_first_takes}
 
 -- what an answer is, which leaves no more lexemes than there were
 record IsRead (answer : Outcome Parsed) (ts : List Lexeme) (p : Parsed) (rest : List Lexeme) : Type 0 where
@@ -282,15 +282,21 @@ module _ (note : Bool) (limit room quantifiers : ℕ) where
       subst (λ (n : ℕ). reading.indexed_behind note limit n (expr note limit n) quantifiers a b ts ≡ Ok (turn.0, turn.1)) (sym less) turn.2 in
       rw (lt-ltb 0 (suc room) (omega arith), now) (turns_read room (suc room) turn.0 p turn.1 rest (omega arith) t (omega (arith, left)) turn.3)
 
+  head_leaves : (ts : List Lexeme) → Gives (spec.headed_first limit (suc room) (expression_of limit) quantifiers note ts) (LeavesLess ts)
+  head_leaves ts =
+      gives_so (Taken note (suc room - 1) quantifiers 13 [] ts) (LeavesLess ts) (spec.headed_first limit (suc room) (expression_of limit) quantifiers note ts)
+      (headed_first_takes limit (suc room) (expression_of limit) (λ side r k least some start known us. expr_takes side limit r k least some start known us) quantifiers note ts)
+      (λ e rest h. omega (arith, ap length h.parts, length-append h.taken rest))
+
   from_head : (ts rest : List Lexeme) (p : Parsed) → is_target p.tree ≡ true → length ts ≤ length rest + limit
       → spec.headed limit (suc room) (expression_of limit) quantifiers note ts ≡ Ok (p, rest)
       → spec.headed_target limit (suc room) (expression_of limit) quantifiers note ts ≡ Ok (p, rest)
   unfolding spec.headed spec.longer spec.headed_target
   from_head ts rest p t few read =
       let less : suc room - 1 ≡ room = omega arith in
-      let turn = bind_ok (expr note limit (suc room - 1) quantifiers 13 at_first ts)
+      let turn = bind_ok (spec.headed_first limit (suc room) (expression_of limit) quantifiers note ts)
       (reading.climb note limit (suc room - 1) (expr note limit (suc room - 1)) quantifiers 11 (suc room)) p rest read in
-      let left = depth_of_taken note limit (suc room - 1) quantifiers 13 ts turn.1 turn.0 turn.2 in
+      let left : length turn.1 ≤ length ts = gives_ok (spec.headed_first limit (suc room) (expression_of limit) quantifiers note ts) (LeavesLess ts) turn.0 turn.1 (head_leaves ts) turn.2 in
       let goes : climbs (suc room) turn.0 turn.1 ≡ Ok (p, rest) =
       subst (λ (n : ℕ). reading.climb note limit n (expr note limit n) quantifiers 11 (suc room) turn.0 turn.1 ≡ Ok (p, rest)) less turn.3 in
       rw turn.2 (turns_read (suc room) (suc room) turn.0 p turn.1 rest (omega arith) t (omega (arith, left)) goes)

@@ -1,5 +1,5 @@
 -- Targets and calls are read, where they begin a statement and behind a word or a sign.
-use Rattle.std.proofs.Common.{◌≡◌, ℕ, zero, suc, ◌+◌, ◌≤◌, Bool, true, false, ◌&&◌, ◌||◌, List, [], ◌∷◌, ◌++◌, length, length-append, Ok, refl, sym, ◌∙◌, arith, codes, inl, inr}
+use Rattle.std.proofs.Common.{◌≡◌, ℕ, zero, suc, ◌+◌, ◌-◌, ◌≤◌, Bool, true, false, ◌&&◌, ◌||◌, List, [], ◌∷◌, ◌++◌, length, length-append, Ok, refl, sym, ◌∙◌, arith, codes, inl, inr}
 use Rattle.std.specs.Prelude.{◌⊎◌, nat_lt}
 use Rattle.std.proofs.lemmas.Bool.{cases_Bool, lt-ltb, and_parts}
 use Rattle.jesc_ast.specs.Lexemes.{Lexeme}
@@ -12,16 +12,17 @@ use Rattle.jesc_jml_grammar.specs.declared.mark.Mark.{Mark}
 use Rattle.jesc_jml_grammar.specs.declared.mark.Mark.TheVariants as m
 use Rattle.jesc_jml_grammar.specs.Marks.{lexeme_mark}
 use Rattle.jesc_jml_grammar.specs.Steps.{mark_at, same_mark}
-use Rattle.jesc_jml_grammar.specs.Reading.{Parsed, Start, at_first, behind_name, behind_bracket, opens, expr}
-use Rattle.jesc_jml_parser.specs.Edges.{goes_on}
-use Rattle.jesc_jml_parser.specs.CompleteMarks.{name_at, word_at, took, same_mark_is, opens_first}
-use Rattle.jesc_jml_parser.specs.CompleteSteps.{parsed, depth_positive}
-use Rattle.jesc_jml_parser.specs.CompleteStarts.{name_start}
-use Rattle.jesc_jml_parser.specs.Complete.{expr_complete}
-use Rattle.jesc_jml_parser.specs.CompleteHeads.{is_longer, headed_complete, name_before_name, name_before_bracket}
+use Rattle.jesc_jml_grammar.specs.Reading.{Parsed, Start, at_first, behind_name, behind_bracket, opens, climb, expr}
+use Rattle.jesc_jml_grammar.specs.laws.Refining.{bind_ok}
+use Rattle.jesc_jml_parser.specs.laws.Edges.{goes_on}
+use Rattle.jesc_jml_parser.specs.laws.CompleteMarks.{name_at, word_at, took, same_mark_is, opens_first}
+use Rattle.jesc_jml_parser.specs.laws.CompleteSteps.{parsed, depth_positive}
+use Rattle.jesc_jml_parser.specs.laws.CompleteStarts.{name_start}
+use Rattle.jesc_jml_parser.specs.laws.Complete.{expr_complete}
+use Rattle.jesc_jml_parser.specs.laws.CompleteHeads.{is_longer, headed_complete, name_before_name, name_before_bracket}
 use Rattle.jesc_java_grammar.specs.FileReading.{expression_of}
 use Rattle.jesc_java_grammar.specs.StatementReading as spec
-use Rattle.jesc_java_grammar.specs.StatementReading.{Piece}
+use Rattle.jesc_java_parser.proofs.CompleteGroups.{first_read}
 use Rattle.jesc_java_parser.proofs.CompleteTargetTails.{target_behind_name, target_behind_bracket, target_at_head}
 
 -- ---- what targets and calls begin with
@@ -63,7 +64,10 @@ module _ (limit room quantifiers : ℕ) (note : Bool) where
   headed_read : (k : ℕ) (e : Expression) (u rest : List Lexeme) → Spells note k e u → is_longer e ≡ true → depth e ≤ room → nesting e ≤ quantifiers → length u ≤ limit
       → goes_on 11 e (mark_at note rest) ≡ false → spec.headed limit room (expression_of limit) quantifiers note (u ++ rest) ≡ Ok (parsed k e, rest)
   unfolding spec.headed spec.longer
-  headed_read k e u rest h longer deep flat short stops = headed_complete note limit room quantifiers k e u rest h longer deep flat short stops
+  headed_read k e u rest h longer deep flat short stops =
+      let turn = bind_ok (expr note limit (room - 1) quantifiers 13 at_first (u ++ rest)) (climb note limit (room - 1) (expr note limit (room - 1)) quantifiers 11 room) (parsed k e) rest
+      (headed_complete note limit room quantifiers k e u rest h longer deep flat short stops) in
+      rw (first_read note limit quantifiers room (u ++ rest) turn.1 turn.0 turn.2) turn.3
 
   tight : {k : ℕ} {e : Expression} {u : List Lexeme} → Spells note k e u → is_act e ≡ true → 11 ≤ k
   tight (is_plain_name s x t) act = omega arith

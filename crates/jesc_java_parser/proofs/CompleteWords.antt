@@ -11,8 +11,8 @@ use Rattle.jesc_ast.specs.Statements.{is_target, is_step_sign, SpellsOption, Sim
 use Rattle.jesc_jml_grammar.specs.declared.mark.Mark.TheVariants as m
 use Rattle.jesc_jml_grammar.specs.Marks as marks
 use Rattle.jesc_jml_grammar.specs.Steps.{Outcome, mark_at, same_mark}
-use Rattle.jesc_jml_parser.specs.CompleteMarks.{name_at, type_word_at, took_sign, took_name, opens_first}
-use Rattle.jesc_jml_parser.specs.ClauseSoundMarks.{of_one_of}
+use Rattle.jesc_jml_parser.specs.laws.CompleteMarks.{name_at, type_word_at, took_sign, took_name, opens_first}
+use Rattle.jesc_jml_parser.specs.laws.ClauseSoundMarks.{of_one_of}
 use Rattle.jesc_jml_grammar.specs.ClauseReading.{Sized, sized}
 use Rattle.jesc_java_grammar.specs.Lexing.{is_word, is_sign}
 use Rattle.jesc_java_grammar.specs.FileReading.{expression_of}

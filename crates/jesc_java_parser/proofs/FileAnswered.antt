@@ -1,5 +1,5 @@
 -- What the rules of files give is what the call answers.
-use Rattle.std.proofs.Common.{◌≡◌, ◌⊎◌, ℕ, ◌-◌, ◌≤◌, ◌<◌, IsTrue, List, [], length, Ok, Err, refl, sym, ap, ◌∙◌, subst, arith, inl, inr}
+use Rattle.std.proofs.Common.{◌≡◌, ◌⊎◌, ℕ, ◌-◌, ◌≤◌, ◌<◌, IsTrue, List, [], length, Result, Ok, Err, refl, sym, ap, ◌∙◌, subst, arith, inl, inr}
 use Rattle.std.specs.Prelude.{slice_get}
 use Rattle.std.proofs.lemmas.List.{length-map}
 use Rattle.jesc_text.specs.declared.place.Place.{Place}
@@ -9,7 +9,7 @@ use Rattle.jesc_ast.specs.Depth.{depth, of_classes, IsFileWithinLimits}
 use Rattle.jesc_ast.specs.FileTrees.{SourceUnit, file_view}
 use Rattle.jesc_ast.specs.Lexemes.{Lexeme, lexeme_of, lexemes}
 use Rattle.jesc_ast.specs.Lines.{lines_of}
-use Rattle.jesc_ast.specs.Members.{SpellsClasses, SpellsPackage, SpellsFile}
+use Rattle.jesc_ast.specs.Members.{SpellsClasses, SpellsPackage, SpellsUnit, SpellsFile}
 use Rattle.jesc_jml_grammar.specs.declared.fault.Fault.{Fault}
 use Rattle.jesc_jml_grammar.specs.declared.fault.Fault.TheVariants as faults
 use Rattle.jesc_jml_grammar.specs.declared.fault.ParseError.{ParseError}
@@ -17,17 +17,17 @@ use Rattle.jesc_jml_grammar.specs.declared.fault.ParseError.TheVariants as error
 use Rattle.jesc_jml_parser.specs.declared.error.SyntaxError.{SyntaxError}
 use Rattle.jesc_jml_parser.specs.declared.error.SyntaxError.TheVariants as refusals
 use Rattle.jesc_jml_grammar.specs.Steps.{Outcome}
-use Rattle.jesc_jml_grammar.specs.Refining.{ok_is}
+use Rattle.jesc_jml_grammar.specs.laws.Refining.{ok_is}
 use Rattle.jesc_jml_grammar.specs.Reading.{turns}
 use Rattle.jesc_jml_grammar.specs.ClauseFound.{Sized, sized}
 use Rattle.jesc_jml_parser.specs.LongestAnswers.{IsRefused, IsStuck}
-use Rattle.jesc_jml_parser.specs.ParsedTrees.{IsTreeRefusal}
-use Rattle.jesc_jml_parser.specs.Refusals.{IsErrorOf, IsFault, place_of_next, is_quantifier_next}
-use Rattle.jesc_jml_parser.proofs.Expressed.{quantifier_at}
+use Rattle.jesc_jml_parser.specs.ParsedTrees.{IsTreeRefusal, IsAnswer}
+use Rattle.jesc_jml_parser.specs.Refusals.{IsFault, place_of_next, is_quantifier_next}
+use Rattle.jesc_jml_parser.specs.laws.Told.{IsErrorOf}
+use Rattle.jesc_jml_parser.proofs.Seen.{quantifier_at}
 use Rattle.jesc_java_grammar.specs.declared.make_class.Unit as code
 use Rattle.jesc_java_grammar.specs.FileReading.{whole_file}
 use Rattle.jesc_java_grammar.specs.GivenUnits.{IsUnitGiven}
-use Rattle.jesc_java_parser.specs.Units.{SpellsUnit, IsUnitAnswer}
 use Rattle.jesc_java_grammar.specs.UnitViews.{unit_view}
 use Rattle.jesc_java_parser.proofs.FileSound.{file_sound, file_within}
 use Rattle.jesc_java_parser.proofs.FileDeepPlaces.{file_deep_place}
@@ -49,11 +49,13 @@ module _ (tokens : Tokens) where
       let h = file_sound turns 200 3 ts rest t is in
       let same : t.tree ≡ file_view file = sym (view ∙ tree) in (
         record {
-          package_part = h.package_part;
-          class_part = h.class_part;
-          whole = h.whole;
-          package_spelled = subst (λ (s : SourceUnit). SpellsPackage s.in_package h.package_part) same h.package_spelled;
-          classes_spelled = subst (λ (s : SourceUnit). SpellsClasses s.classes h.class_part) same h.classes_spelled;
+          unit = record {
+            package_part = h.package_part;
+            class_part = h.class_part;
+            whole = h.whole;
+            package_spelled = subst (λ (s : SourceUnit). SpellsPackage s.in_package h.package_part) same h.package_spelled;
+            classes_spelled = subst (λ (s : SourceUnit). SpellsClasses s.classes h.class_part) same h.classes_spelled;
+          };
           lines = lines;
         },
         subst IsFileWithinLimits same (file_within turns ts rest t is),
@@ -70,15 +72,18 @@ module _ (tokens : Tokens) where
   apart : (r : Outcome (Sized SourceUnit)) (f : Fault) (x : Sized SourceUnit) (rest : List Lexeme) → r ≡ Err f → r ≡ Ok (x, rest) → ⊥
   apart r f x rest a b = cc
 
+  abbrev Answer : SourceUnit → Result File SyntaxError → Type 0
+  Answer t = IsAnswer (λ file. file_view file ≡ t)
+
   -- where a file is spelled, the call tells nothing but that memory ran out
   pub memory_told : length tokens.list < turns → (error : ParseError) → IsUnitGiven outcome (Err error) → (told : SyntaxError) → IsErrorOf tokens error told → (t : SourceUnit)
-      → SpellsUnit t ts → IsFileWithinLimits t → IsUnitAnswer t (Err told)
-  memory_told few errors.Memory given told is t s within = subst (λ (e : SyntaxError). IsUnitAnswer t (Err e)) (sym is) tt
+      → SpellsUnit t ts → IsFileWithinLimits t → Answer t (Err told)
+  memory_told few errors.Memory given told is t s within = subst (λ (e : SyntaxError). Answer t (Err e)) (sym is) tt
   memory_told few (errors.Fault f) given told is t s within = absurd (apart outcome f (sized t (of_classes depth 1 t.classes)) [] given (only_is few t s within))
 
   -- ---- the place of a fault
 
-  deep_at : (n : ℕ) → outcome ≡ Err (faults.Deep n) → (150 ≤ length tokens.list - n) ⊎ IsTrue (is_quantifier_next tokens (slice_get tokens.list (length tokens.list - n)))
+  deep_at : (n : ℕ) → outcome ≡ Err (faults.Deep n) → (150 ≤ length tokens.list - n - 0) ⊎ IsTrue (is_quantifier_next tokens (slice_get tokens.list (length tokens.list - n)))
   deep_at n is =
       let at : length ts - n ≡ length tokens.list - n = omega (arith, count) in
       elim (file_deep_place turns 200 3 ts n is) [

@@ -8,9 +8,9 @@ use Rattle.jesc_ast.specs.FileTrees.{unit_of}
 use Rattle.jesc_jml_grammar.specs.declared.mark.Mark.TheVariants as m
 use Rattle.jesc_jml_grammar.specs.declared.fault.Fault.TheVariants.{Deep, Long}
 use Rattle.jesc_jml_grammar.specs.Steps.{Outcome, ◌>>◌, ◌>>=◌, expect, pure}
-use Rattle.jesc_jml_parser.specs.Places.{split_at}
+use Rattle.jesc_jml_parser.specs.laws.Places.{split_at}
 use Rattle.jesc_jml_grammar.specs.ClauseFound.{sized, no_items, with_more, with_word}
-use Rattle.jesc_jml_parser.specs.ClauseSpending.{Later}
+use Rattle.jesc_jml_parser.specs.laws.ClauseSpending.{Later}
 use Rattle.jesc_java_grammar.specs.declared.member_mark.MemberMark.{MemberMark}
 use Rattle.jesc_java_grammar.specs.declared.member_mark.MemberMark.TheVariants as s
 use Rattle.jesc_java_grammar.specs.Lexing.{is_word, is_sign, next_is, take_if}

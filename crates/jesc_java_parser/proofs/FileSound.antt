@@ -12,10 +12,10 @@ use Rattle.jesc_jml_grammar.specs.Marks.{lexeme_mark}
 use Rattle.jesc_jml_grammar.specs.Steps.{Parser, pure, expect}
 use Rattle.jesc_jml_grammar.specs.Reading.{Parsed, Start, word_of}
 use Rattle.jesc_jml_grammar.specs.ClauseFound.{Sized, with_word}
-use Rattle.jesc_jml_parser.specs.SoundMarks.{marked}
-use Rattle.jesc_jml_parser.specs.SoundSteps.{Gives, gives_bind, gives_if, gives_so, gives_ok, took, TakesWhole}
-use Rattle.jesc_jml_parser.specs.Sound.{expr_takes}
-use Rattle.jesc_jml_parser.specs.ClauseSoundLists.{TakenAs, TakenUntil, separated_takes}
+use Rattle.jesc_jml_parser.specs.laws.SoundMarks.{marked}
+use Rattle.jesc_jml_parser.specs.laws.SoundSteps.{Gives, gives_bind, gives_if, gives_so, gives_ok, took, TakesWhole}
+use Rattle.jesc_jml_parser.specs.laws.Sound.{expr_takes}
+use Rattle.jesc_jml_parser.specs.laws.ClauseSoundLists.{TakenAs, TakenUntil, separated_takes}
 use Rattle.jesc_java_grammar.specs.Lexing.{is_word, next_is, take_if}
 use Rattle.jesc_java_grammar.specs.FileMarks.{at_code, before_end}
 use Rattle.jesc_java_grammar.specs.FileReading as spec

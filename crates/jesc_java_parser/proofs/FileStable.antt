@@ -12,13 +12,13 @@ use Rattle.jesc_jml_grammar.specs.declared.note_word.NoteWord.{NoteWord}
 use Rattle.jesc_jml_grammar.specs.declared.note_word.NoteWord.TheVariants as w
 use Rattle.jesc_jml_grammar.specs.Steps.{Parser, same_mark, ◌>>=◌, pure, expect}
 use Rattle.jesc_jml_grammar.specs.Reading.{Parsed, Start, at_first, type_, type_behind}
-use Rattle.jesc_jml_grammar.specs.Refining.{Refines, refines_pure, refines_refuse, refines_peek, refines_bind, refines_if, refines_expect}
-use Rattle.jesc_jml_parser.specs.Stable as stable
+use Rattle.jesc_jml_grammar.specs.laws.Refining.{Refines, refines_pure, refines_refuse, refines_peek, refines_bind, refines_if, refines_expect}
+use Rattle.jesc_jml_parser.specs.laws.Stable as stable
 use Rattle.jesc_jml_grammar.specs.ClauseMarks.{is_heading_word}
 use Rattle.jesc_jml_grammar.specs.ClauseFound.{Sized, no_items, with_more, with_word, no_value}
-use Rattle.jesc_jml_grammar.specs.ClauseLists.{refines_until, refines_separated}
-use Rattle.jesc_jml_parser.specs.ClauseStable as clauses
-use Rattle.jesc_jml_parser.specs.ClauseStable.{refines_peek_word, refines_peek_span, refines_expect_word}
+use Rattle.jesc_jml_grammar.specs.laws.ListRefining.{refines_until, refines_separated}
+use Rattle.jesc_jml_parser.specs.laws.ClauseStable as clauses
+use Rattle.jesc_jml_parser.specs.laws.ClauseStable.{refines_peek_word, refines_peek_span, refines_expect_word}
 use Rattle.jesc_java_grammar.specs.declared.member_mark.MemberMark.{MemberMark}
 use Rattle.jesc_java_grammar.specs.declared.member_mark.MemberMark.TheVariants as s
 use Rattle.jesc_java_grammar.specs.declared.statement_mark.Slot.{Slot}

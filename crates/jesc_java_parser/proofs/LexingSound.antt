@@ -9,7 +9,7 @@ use Rattle.jesc_lexer.specs.declared.token.TokenKind.TheVariants as kinds
 use Rattle.jesc_ast.specs.Lexemes.{Lexeme, chosen_word, chosen_sign}
 use Rattle.jesc_jml_grammar.specs.Marks.{is_same_side}
 use Rattle.jesc_jml_grammar.specs.Steps.{take_one, refuse}
-use Rattle.jesc_jml_parser.specs.SoundSteps.{Gives, gives_if, gives_so}
+use Rattle.jesc_jml_parser.specs.laws.SoundSteps.{Gives, gives_if, gives_so}
 use Rattle.jesc_java_grammar.specs.Lexing.{is_word_kind, is_sign_kind, is_word_that, is_sign_that, is_word, is_sign, take_if}
 
 -- ---- what the tests say

@@ -3,9 +3,9 @@ use Rattle.std.proofs.Common.{◌≡◌, Bool, false, List, [], ◌∷◌, refl,
 use Rattle.std.specs.Prelude.{not}
 use Rattle.jesc_ast.specs.Lexemes.{Lexeme}
 use Rattle.jesc_jml_grammar.specs.declared.mark.Mark.{Mark}
-use Rattle.jesc_jml_grammar.specs.Steps.{same_mark, take_one, refuse}
-use Rattle.jesc_jml_grammar.specs.Refining.{Refines, refines_bind, refines_if, refines_take_one, refines_refuse, head, mark_at-head}
-use Rattle.jesc_jml_grammar.specs.ClauseLists.{IsByHead, refines_look}
+use Rattle.jesc_jml_grammar.specs.Steps.{same_mark, take_one, refuse, head}
+use Rattle.jesc_jml_grammar.specs.laws.Refining.{Refines, refines_bind, refines_if, refines_take_one, refines_refuse, mark_at-head}
+use Rattle.jesc_jml_grammar.specs.laws.ListRefining.{IsByHead, refines_look}
 use Rattle.jesc_java_grammar.specs.Lexing.{next_is, see_if, take_if}
 use Rattle.jesc_java_grammar.specs.StatementMarks.{statement_mark_at, peek_statement}
 use Rattle.jesc_java_grammar.specs.FileMarks.{member_mark_at, peek_member, is_modifier_mark, at_modifier, at_code, before_brace, before_end}

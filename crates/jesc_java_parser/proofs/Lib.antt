@@ -20,6 +20,7 @@ pub mod MemberSound
 pub mod ClassSound
 pub mod FileSound
 pub mod CompleteLexing
+pub mod CompleteGroups
 pub mod CompleteTargetTails
 pub mod CompleteTargets
 pub mod CompleteActs

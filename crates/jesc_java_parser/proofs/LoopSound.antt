@@ -9,10 +9,10 @@ use Rattle.jesc_ast.specs.Statements.{SpellsOption, SpellsHeadPart, may_begin_fo
 use Rattle.jesc_jml_grammar.specs.declared.mark.Mark.TheVariants as m
 use Rattle.jesc_jml_grammar.specs.Steps.{Parser, pure, expect}
 use Rattle.jesc_jml_grammar.specs.Reading.{Parsed, Start}
-use Rattle.jesc_jml_parser.specs.SoundMarks.{marked}
-use Rattle.jesc_jml_parser.specs.SoundSteps.{Gives, gives_bind, gives_if, took, TakesWhole}
+use Rattle.jesc_jml_parser.specs.laws.SoundMarks.{marked}
+use Rattle.jesc_jml_parser.specs.laws.SoundSteps.{Gives, gives_bind, gives_if, took, TakesWhole}
 use Rattle.jesc_jml_grammar.specs.ClauseFound.{Sized}
-use Rattle.jesc_jml_parser.specs.ClauseSoundLists.{TakenAs}
+use Rattle.jesc_jml_parser.specs.laws.ClauseSoundLists.{TakenAs}
 use Rattle.jesc_java_grammar.specs.declared.statement_mark.StatementMark.{StatementMark}
 use Rattle.jesc_java_grammar.specs.declared.statement_mark.StatementMark.TheVariants as s
 use Rattle.jesc_java_grammar.specs.declared.statement_mark.Slot.{Slot}
@@ -203,8 +203,8 @@ module _ (limit room : ℕ) (expression : Bool → ℕ → ℕ → ℕ → Start
     loop_by_takes some _ = tt
 
   pub loop_takes : 0 < room → (slot : Slot) → allows_loop slot ≡ true → (ts : List Lexeme)
-      → Gives (spec.loop limit room expression k statement ts) (TakenAs (IsStatement (suc room) k slot) ts)
-  unfolding spec.loop
+      → Gives (spec.loop_ limit room expression k statement ts) (TakenAs (IsStatement (suc room) k slot) ts)
+  unfolding spec.loop_
   loop_takes some slot allowed ts =
       gives_bind _ _ (spec.invariants limit room expression k ts) (invariants_take limit room expression reads k ts) (λ cs mid h.
       loop_by_takes slot allowed cs h.taken h.is ts mid h.parts some (statement_mark_at mid))

@@ -16,17 +16,17 @@ use Rattle.jesc_jml_grammar.specs.Reading.{Parsed, Start, word_of}
 use Rattle.jesc_jml_grammar.specs.ClauseMarks.{note_word, word_at, expect_word, is_heading_word}
 use Rattle.jesc_jml_grammar.specs.ClauseReading as clauses
 use Rattle.jesc_jml_grammar.specs.ClauseFound.{Sized, with_word}
-use Rattle.jesc_jml_parser.specs.SoundMarks.{marked}
-use Rattle.jesc_jml_parser.specs.SoundLexemes.{typed}
-use Rattle.jesc_jml_parser.specs.SoundSteps.{Gives, gives_bind, gives_if, gives_so, took, TakesWhole}
-use Rattle.jesc_jml_parser.specs.SoundCalls.{type_takes, type_behind_takes}
-use Rattle.jesc_jml_parser.specs.ClauseSoundMarks.{modifies}
-use Rattle.jesc_jml_parser.specs.ClauseSoundLists.{some_behind, took_word, TakenAs}
-use Rattle.jesc_jml_parser.specs.ClauseSoundCases.{IsSpecRead, specification_takes, specification_behind_takes}
-use Rattle.jesc_jml_parser.specs.ClauseSoundModifiers.{all_modifiers}
-use Rattle.jesc_jml_parser.specs.ClauseSoundModifiers as notes
-use Rattle.jesc_jml_parser.specs.ClauseSoundStores.{takes_expressions}
-use Rattle.jesc_jml_parser.specs.ClauseSoundMembers.{form_takes}
+use Rattle.jesc_jml_parser.specs.laws.SoundMarks.{marked}
+use Rattle.jesc_jml_parser.specs.laws.SoundLexemes.{typed}
+use Rattle.jesc_jml_parser.specs.laws.SoundSteps.{Gives, gives_bind, gives_if, gives_so, took, TakesWhole}
+use Rattle.jesc_jml_parser.specs.laws.SoundCalls.{type_takes, type_behind_takes}
+use Rattle.jesc_jml_parser.specs.laws.ClauseSoundMarks.{modifies}
+use Rattle.jesc_jml_parser.specs.laws.ClauseSoundLists.{some_behind, took_word, TakenAs}
+use Rattle.jesc_jml_parser.specs.laws.ClauseSoundCases.{IsSpecRead, specification_takes, specification_behind_takes}
+use Rattle.jesc_jml_parser.specs.laws.ClauseSoundModifiers.{all_modifiers}
+use Rattle.jesc_jml_parser.specs.laws.ClauseSoundModifiers as notes
+use Rattle.jesc_jml_parser.specs.laws.ClauseSoundStores.{takes_expressions}
+use Rattle.jesc_jml_parser.specs.laws.ClauseSoundMembers.{form_takes}
 use Rattle.jesc_java_grammar.specs.declared.member_mark.MemberMark.{MemberMark}
 use Rattle.jesc_java_grammar.specs.declared.member_mark.MemberMark.TheVariants as marks
 use Rattle.jesc_java_grammar.specs.Lexing.{is_word, take_if}

@@ -18,11 +18,11 @@ use Rattle.jesc_jml_grammar.specs.Reading.{Parsed, at_first, word_of, expr}
 use Rattle.jesc_jml_grammar.specs.ClauseMarks.{word_at, same_word, span_at, is_heading_word, expect_word}
 use Rattle.jesc_jml_grammar.specs.ClauseFound.{Sized, Ended, ended, no_items, with_more, with_word, no_value, value_of}
 use Rattle.jesc_jml_grammar.specs.ClauseReading as clauses
-use Rattle.jesc_jml_parser.specs.Spending.{Spent}
-use Rattle.jesc_jml_parser.specs.DeepPlaces as places
-use Rattle.jesc_jml_parser.specs.DeepPlaces.{Shallow, started, spent_expr}
-use Rattle.jesc_jml_parser.specs.ClauseSpending.{Later, Past}
-use Rattle.jesc_jml_parser.specs.ClauseDeepPlaces as notes
+use Rattle.jesc_jml_parser.specs.laws.Spending.{Spent}
+use Rattle.jesc_jml_parser.specs.laws.DeepPlaces as places
+use Rattle.jesc_jml_parser.specs.laws.DeepPlaces.{Shallow, started, spent_expr}
+use Rattle.jesc_jml_parser.specs.laws.ClauseSpending.{Later, Past}
+use Rattle.jesc_jml_parser.specs.laws.ClauseDeepPlaces as notes
 use Rattle.jesc_java_grammar.specs.declared.member_mark.MemberMark.{MemberMark}
 use Rattle.jesc_java_grammar.specs.declared.member_mark.MemberMark.TheVariants as s
 use Rattle.jesc_java_grammar.specs.Lexing.{is_word, is_sign, next_is, take_if}

@@ -16,13 +16,13 @@ use Rattle.jesc_jml_grammar.specs.declared.mark.Mark.TheVariants as m
 use Rattle.jesc_jml_grammar.specs.Marks.{lexeme_mark}
 use Rattle.jesc_jml_grammar.specs.Steps.{Parser, pure, mark_at, same_mark, expect}
 use Rattle.jesc_jml_grammar.specs.Reading.{Parsed, Start, at_first}
-use Rattle.jesc_jml_parser.specs.SoundMarks.{marked}
-use Rattle.jesc_jml_parser.specs.SoundSteps.{Gives, gives_bind, gives_if, took, TakesWhole}
+use Rattle.jesc_jml_parser.specs.laws.SoundMarks.{marked}
+use Rattle.jesc_jml_parser.specs.laws.SoundSteps.{Gives, gives_bind, gives_if, took, TakesWhole}
 use Rattle.jesc_jml_grammar.specs.ClauseReading as clauses
 use Rattle.jesc_jml_grammar.specs.ClauseFound.{Sized, Ended, Value}
-use Rattle.jesc_jml_parser.specs.ClauseSoundLists.{end_of, end_of_both, IsSome, some_behind, TakenAs, IsRead}
-use Rattle.jesc_jml_parser.specs.ClauseSoundStores.{takes_expressions}
-use Rattle.jesc_jml_parser.specs.ClauseSoundMembers.{groups_take}
+use Rattle.jesc_jml_parser.specs.laws.ClauseSoundLists.{end_of, end_of_both, IsSome, some_behind, TakenAs, IsRead}
+use Rattle.jesc_jml_parser.specs.laws.ClauseSoundStores.{takes_expressions}
+use Rattle.jesc_jml_parser.specs.laws.ClauseSoundMembers.{groups_take}
 use Rattle.jesc_java_grammar.specs.Lexing.{is_sign, next_is, take_if}
 use Rattle.jesc_java_grammar.specs.StatementReading as statements
 use Rattle.jesc_java_grammar.specs.FileReading as spec

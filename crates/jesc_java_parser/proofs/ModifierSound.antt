@@ -10,9 +10,9 @@ use Rattle.jesc_ast.specs.Members.{is_code_modifier, is_note_modifier, SpellsMod
 use Rattle.jesc_jml_grammar.specs.declared.mark.Mark.TheVariants as m
 use Rattle.jesc_jml_grammar.specs.Steps.{Parser, ◌>>◌, pure, expect}
 use Rattle.jesc_jml_grammar.specs.Reading.{Parsed, Start, word_of}
-use Rattle.jesc_jml_parser.specs.SoundSteps.{Gives, gives_bind, gives_if, gives_so, took}
+use Rattle.jesc_jml_parser.specs.laws.SoundSteps.{Gives, gives_bind, gives_if, gives_so, took}
 use Rattle.jesc_jml_grammar.specs.ClauseFound.{with_word}
-use Rattle.jesc_jml_parser.specs.ClauseSoundLists.{TakenAs, TakenUntil, until_takes, separated_takes, one_name, names_at_end}
+use Rattle.jesc_jml_parser.specs.laws.ClauseSoundLists.{TakenAs, TakenUntil, until_takes, separated_takes, one_name, names_at_end}
 use Rattle.jesc_java_grammar.specs.declared.member_mark.MemberMark.{MemberMark}
 use Rattle.jesc_java_grammar.specs.declared.member_mark.MemberMark.TheVariants as s
 use Rattle.jesc_java_grammar.specs.Lexing.{is_word_that, is_word, is_sign, next_is, take_if}

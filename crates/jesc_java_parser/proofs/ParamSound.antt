@@ -12,11 +12,11 @@ use Rattle.jesc_jml_grammar.specs.Marks.{lexeme_mark}
 use Rattle.jesc_jml_grammar.specs.Steps.{Parser, ◌>>◌, pure, mark_at, same_mark, expect}
 use Rattle.jesc_jml_grammar.specs.Reading as reading
 use Rattle.jesc_jml_grammar.specs.Reading.{Parsed, Start, word_of}
-use Rattle.jesc_jml_parser.specs.SoundMarks.{marked}
-use Rattle.jesc_jml_parser.specs.SoundSteps.{Gives, gives_bind, gives_if, gives_so, took, TakesWhole}
-use Rattle.jesc_jml_parser.specs.SoundCalls.{type_takes}
+use Rattle.jesc_jml_parser.specs.laws.SoundMarks.{marked}
+use Rattle.jesc_jml_parser.specs.laws.SoundSteps.{Gives, gives_bind, gives_if, gives_so, took, TakesWhole}
+use Rattle.jesc_jml_parser.specs.laws.SoundCalls.{type_takes}
 use Rattle.jesc_jml_grammar.specs.ClauseFound.{with_word}
-use Rattle.jesc_jml_parser.specs.ClauseSoundLists.{TakenAs, TakenUntil, until_takes, separated_takes}
+use Rattle.jesc_jml_parser.specs.laws.ClauseSoundLists.{TakenAs, TakenUntil, until_takes, separated_takes}
 use Rattle.jesc_java_grammar.specs.Lexing.{is_word_that, is_word, next_is, take_if}
 use Rattle.jesc_java_grammar.specs.FileMarks.{is_param_modifier, at_code}
 use Rattle.jesc_java_grammar.specs.FileReading as spec

@@ -11,12 +11,12 @@ use Rattle.jesc_jml_grammar.specs.declared.mark.Mark.TheVariants as m
 use Rattle.jesc_jml_grammar.specs.Marks.{lexeme_mark}
 use Rattle.jesc_jml_grammar.specs.Steps.{Parser, ◌>>=◌, pure, mark_at, same_mark, expect}
 use Rattle.jesc_jml_grammar.specs.Reading.{Parsed, Start}
-use Rattle.jesc_jml_parser.specs.SoundMarks.{marked}
-use Rattle.jesc_jml_parser.specs.SoundPieces.{IsSpelled}
-use Rattle.jesc_jml_parser.specs.SoundSteps.{Gives, gives_bind, gives_if, gives_so, took, TakesWhole}
+use Rattle.jesc_jml_parser.specs.laws.SoundMarks.{marked}
+use Rattle.jesc_jml_parser.specs.laws.SoundPieces.{IsSpelled}
+use Rattle.jesc_jml_parser.specs.laws.SoundSteps.{Gives, gives_bind, gives_if, gives_so, took, TakesWhole}
 use Rattle.jesc_jml_grammar.specs.ClauseFound.{Sized, no_items, with_more}
-use Rattle.jesc_jml_parser.specs.ClauseSoundLists.{TakenAs, TakenUntil, until_takes, IsRead, read_more, read_none}
-use Rattle.jesc_jml_parser.specs.ClauseSoundClauses.{clause_measure, clauses_are_greatest, clauses_at_end}
+use Rattle.jesc_jml_parser.specs.laws.ClauseSoundLists.{TakenAs, TakenUntil, until_takes, IsRead, read_more, read_none}
+use Rattle.jesc_jml_parser.specs.laws.ClauseSoundClauses.{clause_measure, clauses_are_greatest, clauses_at_end}
 use Rattle.jesc_java_grammar.specs.Lexing.{next_is, take_if}
 use Rattle.jesc_java_grammar.specs.StatementMarks.{is_invariant, is_invariant_text}
 use Rattle.jesc_java_grammar.specs.StatementReading as spec

@@ -14,10 +14,10 @@ use Rattle.jesc_jml_grammar.specs.Steps.{Outcome, Parser, and_then, refuse, too_
 use Rattle.jesc_jml_grammar.specs.Reading as reading
 use Rattle.jesc_jml_grammar.specs.Reading.{Parsed, Start, at_first, behind_name, behind_bracket, word_of, leaf, over, over_two, grows, expr}
 use Rattle.jesc_jml_grammar.specs.ClauseFound.{Sized, sized, no_items, with_more}
-use Rattle.jesc_jml_parser.specs.ClauseSpending.{Later}
-use Rattle.jesc_jml_parser.specs.DeepPlaces as places
-use Rattle.jesc_jml_parser.specs.DeepPlaces.{started, Shallow, spent_expr}
-use Rattle.jesc_jml_parser.specs.Spending.{Spent}
+use Rattle.jesc_jml_parser.specs.laws.ClauseSpending.{Later}
+use Rattle.jesc_jml_parser.specs.laws.DeepPlaces as places
+use Rattle.jesc_jml_parser.specs.laws.DeepPlaces.{started, Shallow, spent_expr}
+use Rattle.jesc_jml_parser.specs.laws.Spending.{Spent}
 use Rattle.jesc_java_grammar.specs.declared.statement_mark.StatementMark.{StatementMark}
 use Rattle.jesc_java_grammar.specs.declared.statement_mark.StatementMark.TheVariants as s
 use Rattle.jesc_java_grammar.specs.Lexing.{is_word, is_sign, next_is}
@@ -71,10 +71,48 @@ module _ (limit room k : ℕ) where
       of_side note limit (room - 1 - 1) need Shallow (λ c' e. e.depth + c ≤ c') 0 c ts (omega arith) (omega arith) (λ t e low. omega arith) (expr note limit (room - 1) k least at_first ts)
       (inner note k least at_first ts)
 
+  -- what the parser of the expressions inside says where there are two nodes less
+  under : (note : Bool) (n least : ℕ) (start : Start) (ts : List Lexeme) → Spent note limit (room - 2 - 1) Shallow (started start) ts (expr note limit (room - 2) n least start ts)
+  under note n least start ts = spent_expr note limit (room - 2) n least start ts
+
+  -- a tree, with fewer nodes from its root to a leaf than its lexemes are many
+  abbrev Low : ℕ → ℕ → Parsed → Type 0
+  Low c c' e = e.depth + c ≤ c'
+
+  quantified : (note : Bool) (p : Lexeme) (c c' : ℕ) → 1 ≤ c → c < c' → (ts : List Lexeme)
+      → S (Low c) c' ts (reading.quantified note limit (room - 2) (expr note limit (room - 2)) k p ts)
+  quantified note p c c' some late ts =
+      of_side note limit (room - 2) need Shallow (Low c) 1 c' ts (omega arith) (omega arith) (λ t e low. omega arith) _
+      (places.spent_quantified note limit (room - 2) (expr note limit (room - 2)) (under note) k p 1 (omega arith) ts)
+
+  grouped : (note : Bool) (p : Lexeme) (start : Start) (c c' : ℕ) → 1 ≤ c → c + started start < c' → (ts : List Lexeme)
+      → S (Low c) c' ts (reading.grouped note limit (room - 2) (expr note limit (room - 2)) k p start ts)
+  grouped note p start c c' some late ts =
+      of_side note limit (room - 2) need Shallow (Low c) (suc (started start)) c' ts (omega arith) (omega arith) (λ t e low. omega arith) _
+      (places.spent_grouped note limit (room - 2) (expr note limit (room - 2)) (under note) k p start (suc (started start)) (omega arith) ts)
+
+  headed_group_by : (note : Bool) (p : Lexeme) (mark : Mark) (c c' : ℕ) → 1 ≤ c → c < c' → (ts : List Lexeme)
+      → S (Low c) c' ts (spec.headed_group_by limit room (expression_of limit) k note p mark ts)
+  headed_group_by note p m.Forall c c' some late ts = quantified note p c c' some late ts
+  headed_group_by note p m.Exists c c' some late ts = quantified note p c c' some late ts
+  headed_group_by note p m.Name c c' some late ts = after_mark limit need note m.Name _ (Low c) c' ts (λ x mid c1 e1. grouped note p (behind_name x) c c1 some (omega arith) mid)
+  headed_group_by note p _ c c' some late ts = grouped note p at_first c c' some (omega arith) ts
+
+  headed_group : (note : Bool) (c : ℕ) → 1 ≤ c → (ts : List Lexeme) → S (Low c) c ts (spec.headed_group limit room (expression_of limit) k note ts)
+  unfolding spec.headed_group
+  headed_group note c some ts = after_mark limit need note m.LeftParen _ (Low c) c ts (λ p mid c1 e1. headed_group_by note p (mark_at note mid) c c1 some e1 mid)
+
+  headed_first : (note : Bool) (c : ℕ) → 1 ≤ c → (ts : List Lexeme) → S (Low c) c ts (spec.headed_first limit room (expression_of limit) k note ts)
+  unfolding spec.headed_first
+  headed_first note c some ts =
+      either limit need (Low c) c (same_mark (mark_at note ts) m.LeftParen) _ _ ts
+      (choice (Low c) c (nat_lt 2 room) _ too_deep ts (λ fits. headed_group note c some ts) (λ short. deep limit need (Low c) c ts (omega (arith, ltb-false 2 room short))))
+      (inner_tree note 13 c some ts)
+
   headed : (note : Bool) (b c : ℕ) → b ≤ c → 1 ≤ c → (ts : List Lexeme) → S (Later b) c ts (spec.headed limit room (expression_of limit) k note ts)
   unfolding spec.headed
   headed note b c le some ts =
-      after limit need (λ c' e. e.depth + c ≤ c') _ (Later b) c ts (expr note limit (room - 1) k 13 at_first ts) (inner_tree note 13 c some ts)
+      after limit need (Low c) _ (Later b) c ts (spec.headed_first limit room (expression_of limit) k note ts) (headed_first note c some ts)
       (λ a mid c1 e1. longer note a b c1 (omega arith) (omega arith) mid)
 
   pub type_inside : (note : Bool) (b c : ℕ) → b ≤ c → (ts : List Lexeme) → S (Later b) c ts (spec.type_inside limit room (expression_of limit) k note ts)
@@ -87,10 +125,6 @@ module _ (limit room k : ℕ) where
   -- no deeper than the lexemes are many, and so many at least
   abbrev Flat : ℕ → ℕ → Parsed → Type 0
   Flat b c e = (e.depth ≤ c) × (b ≤ c)
-
-  -- what the parser of the expressions inside says where there are two nodes less
-  under : (note : Bool) (n least : ℕ) (start : Start) (ts : List Lexeme) → Spent note limit (room - 2 - 1) Shallow (started start) ts (expr note limit (room - 2) n least start ts)
-  under note n least start ts = spent_expr note limit (room - 2) n least start ts
 
   -- the name of the method makes up for one of them
   called : (note : Bool) (first : Span) (r : Receiver) (depth : ℕ) (x : Lexeme) (b c : ℕ) → depth + 1 ≤ c → b ≤ c → (ts : List Lexeme)
@@ -182,7 +216,7 @@ module _ (limit room k : ℕ) where
   headed_target : (note : Bool) (b c : ℕ) → b ≤ c → 1 ≤ c → (ts : List Lexeme) → S (Later b) c ts (spec.headed_target limit room (expression_of limit) k note ts)
   unfolding spec.headed_target
   headed_target note b c le some ts =
-      after limit need (λ c' e. e.depth + c ≤ c') _ (Later b) c ts (expr note limit (room - 1) k 13 at_first ts) (inner_tree note 13 c some ts)
+      after limit need (Low c) _ (Later b) c ts (spec.headed_first limit room (expression_of limit) k note ts) (headed_first note c some ts)
       (λ a mid c1 e1. target_longer note room a b c1 (omega arith) (omega arith) (omega arith) mid)
 
   named_target : (note : Bool) (b c : ℕ) → b ≤ c → (ts : List Lexeme) → S (Later b) c ts (spec.named_target limit room (expression_of limit) k note ts)

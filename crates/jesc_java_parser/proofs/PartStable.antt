@@ -12,17 +12,16 @@ use Rattle.jesc_jml_grammar.specs.declared.mark.Mark.TheVariants as m
 use Rattle.jesc_jml_grammar.specs.Steps.{Parser, same_mark, ◌>>=◌, pure, expect}
 use Rattle.jesc_jml_grammar.specs.Reading as reading
 use Rattle.jesc_jml_grammar.specs.Reading.{Parsed, Start, at_first, behind_name, behind_bracket, word_of, leaf, over, grows}
-use Rattle.jesc_jml_grammar.specs.Refining.{Refines, refines_pure, refines_refuse, refines_deep, refines_unbounded, refines_peek, refines_bind, refines_if, refines_expect}
-use Rattle.jesc_jml_parser.specs.Stable as stable
-use Rattle.jesc_jml_parser.specs.Stable.{refines_room}
+use Rattle.jesc_jml_grammar.specs.laws.Refining.{Refines, refines_pure, refines_refuse, refines_deep, refines_unbounded, refines_peek, refines_bind, refines_if, refines_expect}
+use Rattle.jesc_jml_parser.specs.laws.Stable as stable
+use Rattle.jesc_jml_parser.specs.laws.Stable.{refines_room}
 use Rattle.jesc_jml_grammar.specs.ClauseFound.{no_items, with_more}
-use Rattle.jesc_jml_grammar.specs.ClauseLists.{refines_until}
+use Rattle.jesc_jml_grammar.specs.laws.ListRefining.{refines_until}
 use Rattle.jesc_java_grammar.specs.declared.statement_mark.StatementMark.{StatementMark}
 use Rattle.jesc_java_grammar.specs.declared.statement_mark.StatementMark.TheVariants as s
 use Rattle.jesc_java_grammar.specs.Lexing.{is_word, is_sign, take_if}
 use Rattle.jesc_java_grammar.specs.StatementMarks.{is_assign, is_step, is_invariant}
 use Rattle.jesc_java_grammar.specs.StatementReading as spec
-use Rattle.jesc_java_grammar.specs.StatementReading.{Piece}
 use Rattle.jesc_java_parser.proofs.LexingStable.{by_next, refines_take_if, refines_peek_statement}
 
 -- ---- the parts of one statement
@@ -71,15 +70,42 @@ module _ (same : Bool) (limit limit' : ℕ) (limits : limit ≤ limit') (room ro
   one_less : (note : Bool) (least : ℕ) → Refines same (less note (room - 1) k least at_first) (more note (room' - 1) k' least at_first)
   one_less note least = h note (room - 1) (room' - 1) lower same_lower k k' ks same_ks least at_first
 
-  refines_headed : (note : Bool) → Refines same (spec.headed limit room less k note) (spec.headed limit' room' more k' note)
-  unfolding spec.headed
-  refines_headed note = chain _ _ _ _ (one_less note 13) (refines_longer note)
-
   under : room - 2 ≤ room' - 2
   under = omega arith
 
   same_under : same ≡ true → room - 2 ≡ room' - 2
   same_under s = ap (λ (n : ℕ). n - 2) (same_rooms s)
+
+  refines_quantified : (note : Bool) (p : Lexeme)
+      → Refines same (reading.quantified note limit (room - 2) (less note (room - 2)) k p) (reading.quantified note limit' (room' - 2) (more note (room' - 2)) k' p)
+  refines_quantified note p = stable.refines_quantified same note limit limit' limits (room - 2) (room' - 2) under same_under (less note (room - 2)) (more note (room' - 2))
+      (h note (room - 2) (room' - 2) under same_under) k k' ks same_ks p
+
+  refines_grouped : (note : Bool) (p : Lexeme) (start : Start)
+      → Refines same (reading.grouped note limit (room - 2) (less note (room - 2)) k p start) (reading.grouped note limit' (room' - 2) (more note (room' - 2)) k' p start)
+  refines_grouped note p start = stable.refines_grouped same note limit limit' limits (room - 2) (room' - 2) under same_under (less note (room - 2)) (more note (room' - 2))
+      (h note (room - 2) (room' - 2) under same_under) k k' ks same_ks p start
+
+  refines_headed_group_by : (note : Bool) (p : Lexeme) (mark : Mark)
+      → Refines same (spec.headed_group_by limit room less k note p mark) (spec.headed_group_by limit' room' more k' note p mark)
+  refines_headed_group_by note p m.Forall = refines_quantified note p
+  refines_headed_group_by note p m.Exists = refines_quantified note p
+  refines_headed_group_by note p m.Name = chain _ _ _ _ (eat note m.Name) (λ x. refines_grouped note p (behind_name x))
+  refines_headed_group_by note p _ = refines_grouped note p at_first
+
+  refines_headed_group : (note : Bool) → Refines same (spec.headed_group limit room less k note) (spec.headed_group limit' room' more k' note)
+  unfolding spec.headed_group
+  refines_headed_group note = chain _ _ _ _ (eat note m.LeftParen) (λ p. chain _ _ _ _ (refines_peek same note) (refines_headed_group_by note p))
+
+  refines_headed_first : (note : Bool) → Refines same (spec.headed_first limit room less k note) (spec.headed_first limit' room' more k' note)
+  unfolding spec.headed_first
+  refines_headed_first note = chain _ _ _ _ (refines_peek same note) (λ mark. refines_if same (same_mark mark m.LeftParen) _ _ _ _
+      (refines_room same (nat_lt 2 room) (nat_lt 2 room') _ _ (grind arith) (λ e. ap (nat_lt 2) (same_rooms e)) (refines_headed_group note))
+      (one_less note 13))
+
+  refines_headed : (note : Bool) → Refines same (spec.headed limit room less k note) (spec.headed limit' room' more k' note)
+  unfolding spec.headed
+  refines_headed note = chain _ _ _ _ (refines_headed_first note) (refines_longer note)
 
   refines_called_under : (note : Bool) (first : Span) (r : Receiver) (depth : ℕ) (x : Lexeme)
       → Refines same (spec.called_under limit room less k note first r depth x) (spec.called_under limit' room' more k' note first r depth x)
@@ -153,7 +179,7 @@ module _ (same : Bool) (limit limit' : ℕ) (limits : limit ≤ limit') (room ro
 
   refines_headed_target : (note : Bool) → Refines same (spec.headed_target limit room less k note) (spec.headed_target limit' room' more k' note)
   unfolding spec.headed_target
-  refines_headed_target note = chain _ _ _ _ (one_less note 13) (refines_target_longer note room room' rooms same_rooms)
+  refines_headed_target note = chain _ _ _ _ (refines_headed_first note) (refines_target_longer note room room' rooms same_rooms)
 
   refines_named_target : (note : Bool) → Refines same (spec.named_target limit room less k note) (spec.named_target limit' room' more k' note)
   unfolding spec.named_target

@@ -1,5 +1,5 @@
 -- What the rules of simple statements take, and how deep the trees are that they give.
-use Rattle.std.proofs.Common.{◌≡◌, ℕ, suc, ◌+◌, ◌-◌, ◌≤◌, ◌<◌, Bool, true, false, List, [], ◌∷◌, ◌++◌, refl, sym, ap, append_assoc, arith}
+use Rattle.std.proofs.Common.{◌≡◌, ℕ, suc, ◌+◌, ◌-◌, ◌≤◌, ◌<◌, Bool, true, false, List, [], ◌∷◌, ◌++◌, refl, sym, ap, ◌∙◌, append_assoc, arith}
 use Rattle.std.proofs.lemmas.Bool.{and_parts, ltb-true}
 use Rattle.std.specs.Prelude.{◌&&◌, nat_lt}
 use Rattle.jesc_text.specs.declared.place.Span.{Span}
@@ -8,12 +8,18 @@ use Rattle.jesc_ast.specs.Trees.{Statement}
 use Rattle.jesc_ast.specs.Depth.{depth, nesting, of_statement}
 use Rattle.jesc_ast.specs.Statements as grammar
 use Rattle.jesc_ast.specs.Statements.{is_target, is_call, Simple, assigns, SpellsSimple, is_assignment, is_step_after, is_call_alone, may_begin_for, may_end_turn, is_loop, is_branch, is_assign_sign, is_step_sign}
-use Rattle.jesc_jml_grammar.specs.Steps.{Parser, pure, refuse, too_deep}
-use Rattle.jesc_jml_grammar.specs.Reading.{Parsed, Start, at_first}
-use Rattle.jesc_jml_parser.specs.SoundPieces.{IsSpelled, depth_some}
-use Rattle.jesc_jml_parser.specs.SoundSteps.{Gives, gives_bind, gives_if, gives_so, Taken, TakesWhole}
-use Rattle.jesc_jml_parser.specs.SoundLonger.{climb_takes}
-use Rattle.jesc_jml_parser.specs.ClauseSoundLists.{TakenAs}
+use Rattle.jesc_jml_grammar.specs.declared.mark.Mark.{Mark}
+use Rattle.jesc_jml_grammar.specs.declared.mark.Mark.TheVariants as m
+use Rattle.jesc_jml_grammar.specs.Marks.{lexeme_mark}
+use Rattle.jesc_jml_grammar.specs.Steps.{Parser, pure, refuse, too_deep, mark_at, same_mark, expect}
+use Rattle.jesc_jml_grammar.specs.Reading as reading
+use Rattle.jesc_jml_grammar.specs.Reading.{Parsed, Start, at_first, behind_name}
+use Rattle.jesc_jml_parser.specs.laws.SoundPieces.{IsSpelled, depth_some}
+use Rattle.jesc_jml_parser.specs.laws.SoundSteps.{Gives, gives_bind, gives_if, gives_so, took, Taken, TakesWhole}
+use Rattle.jesc_jml_parser.specs.laws.SoundGroups.{joined, grouped_takes}
+use Rattle.jesc_jml_parser.specs.laws.SoundQuantifiers.{quantified_takes}
+use Rattle.jesc_jml_parser.specs.laws.SoundLonger.{climb_takes}
+use Rattle.jesc_jml_parser.specs.laws.ClauseSoundLists.{TakenAs}
 use Rattle.jesc_java_grammar.specs.declared.statement_mark.StatementMark.{StatementMark}
 use Rattle.jesc_java_grammar.specs.declared.statement_mark.StatementMark.TheVariants as s
 use Rattle.jesc_java_grammar.specs.Lexing.{take_if}
@@ -68,10 +74,42 @@ module _ (limit room : ℕ) (expression : Bool → ℕ → ℕ → ℕ → Start
 
   -- ---- what begins otherwise than with a name
 
+  headed_group_by_takes : (note : Bool) (p : Lexeme) → lexeme_mark note p ≡ m.LeftParen → (mark : Mark) (ts : List Lexeme)
+      → Gives (spec.headed_group_by limit room expression k note p mark ts) (Taken note (suc (room - 2)) k 13 (p ∷ []) ts)
+  headed_group_by_takes note p left m.Forall ts = quantified_takes note limit (room - 2) (expression note (room - 2)) (reads note (room - 2)) k 13 p left ts
+  headed_group_by_takes note p left m.Exists ts = quantified_takes note limit (room - 2) (expression note (room - 2)) (reads note (room - 2)) k 13 p left ts
+  headed_group_by_takes note p left m.Name ts =
+      gives_bind _ _ (expect note m.Name ts) (took note m.Name ts) (λ x mid named.
+      gives_so (Taken note (suc (room - 2)) k 13 (p ∷ x ∷ []) mid) (Taken note (suc (room - 2)) k 13 (p ∷ []) ts)
+      (reading.grouped note limit (room - 2) (expression note (room - 2)) k p (behind_name x) mid)
+      (grouped_takes note limit (room - 2) (expression note (room - 2)) (reads note (room - 2)) k 13 p left (behind_name x) named.mark mid)
+      (joined note (suc (room - 2)) k 13 (p ∷ []) ts mid x named.at))
+  headed_group_by_takes note p left _ ts = grouped_takes note limit (room - 2) (expression note (room - 2)) (reads note (room - 2)) k 13 p left at_first tt ts
+
+  headed_group_takes : 2 < room → (note : Bool) (ts : List Lexeme) → Gives (spec.headed_group limit room expression k note ts) (Taken note (room - 1) k 13 [] ts)
+  unfolding spec.headed_group
+  headed_group_takes some note ts =
+      gives_bind _ _ (expect note m.LeftParen ts) (took note m.LeftParen ts) (λ p mid left.
+      gives_so (Taken note (suc (room - 2)) k 13 (p ∷ []) mid) (Taken note (room - 1) k 13 [] ts) (spec.headed_group_by limit room expression k note p (mark_at note mid) mid)
+      (headed_group_by_takes note p left.mark (mark_at note mid) mid)
+      (λ e rest h. record {
+        taken = p ∷ h.taken;
+        parts = left.at ∙ ap (λ (z : List Lexeme). p ∷ z) h.parts;
+        is = resized note (suc (room - 2)) (room - 1) k (p ∷ h.taken) e h.is (omega (arith, some));
+        tight = h.tight;
+      }))
+
+  pub headed_first_takes : (note : Bool) (ts : List Lexeme) → Gives (spec.headed_first limit room expression k note ts) (Taken note (room - 1) k 13 [] ts)
+  unfolding spec.headed_first
+  headed_first_takes note ts =
+      gives_if (same_mark (mark_at note ts) m.LeftParen) _ _ (Taken note (room - 1) k 13 [] ts) ts
+      (λ e. gives_if (nat_lt 2 room) _ _ (Taken note (room - 1) k 13 [] ts) ts (λ f. headed_group_takes (ltb-true 2 room f) note ts) (λ f. tt))
+      (λ e. reads note (room - 1) k 13 (omega arith) at_first tt ts)
+
   pub headed_takes : (note : Bool) (ts : List Lexeme) → Gives (spec.headed limit room expression k note ts) (TakenTree note room k ts)
   unfolding spec.headed spec.longer
   headed_takes note ts =
-      gives_bind _ _ (expression note (room - 1) k 13 at_first ts) (reads note (room - 1) k 13 (omega arith) at_first tt ts) (λ a mid h.
+      gives_bind _ _ (spec.headed_first limit room expression k note ts) (headed_first_takes note ts) (λ a mid h.
       let some : suc (room - 1) ≤ room = omega (arith, depth_some a.tree, h.is.deep, h.is.shallow) in
       gives_so (Taken note (suc (room - 1)) k 0 [] ts) (TakenTree note room k ts) (spec.longer limit room expression k note a mid)
       (climb_takes note limit (room - 1) (expression note (room - 1)) (reads note (room - 1)) k 11 0 (omega arith) (omega arith) [] ts room a mid

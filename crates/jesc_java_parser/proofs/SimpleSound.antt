@@ -12,12 +12,12 @@ use Rattle.jesc_jml_grammar.specs.declared.mark.Mark.TheVariants as m
 use Rattle.jesc_jml_grammar.specs.Marks.{lexeme_mark}
 use Rattle.jesc_jml_grammar.specs.Steps.{Parser, mark_at, same_mark, expect}
 use Rattle.jesc_jml_grammar.specs.Reading.{Parsed, Start, at_first, behind_name, behind_bracket, word_of}
-use Rattle.jesc_jml_parser.specs.SoundMarks.{marked}
-use Rattle.jesc_jml_parser.specs.SoundLexemes.{typed}
-use Rattle.jesc_jml_parser.specs.SoundPieces.{plain_type, array_type}
-use Rattle.jesc_jml_parser.specs.SoundSteps.{Gives, gives_bind, gives_if, gives_so, took, start_lexemes, IsStart, Taken, TakesWhole}
-use Rattle.jesc_jml_parser.specs.SoundCalls.{type_takes}
-use Rattle.jesc_jml_parser.specs.ClauseSoundLists.{TakenAs}
+use Rattle.jesc_jml_parser.specs.laws.SoundMarks.{marked}
+use Rattle.jesc_jml_parser.specs.laws.SoundLexemes.{typed}
+use Rattle.jesc_jml_parser.specs.laws.SoundPieces.{plain_type, array_type}
+use Rattle.jesc_jml_parser.specs.laws.SoundSteps.{Gives, gives_bind, gives_if, gives_so, took, start_lexemes, IsStart, Taken, TakesWhole}
+use Rattle.jesc_jml_parser.specs.laws.SoundCalls.{type_takes}
+use Rattle.jesc_jml_parser.specs.laws.ClauseSoundLists.{TakenAs}
 use Rattle.jesc_java_grammar.specs.declared.statement_mark.StatementMark.{StatementMark}
 use Rattle.jesc_java_grammar.specs.declared.statement_mark.StatementMark.TheVariants as s
 use Rattle.jesc_java_grammar.specs.Lexing.{is_sign, is_word, take_if}

@@ -7,8 +7,8 @@ use Rattle.jesc_jml_grammar.specs.declared.fault.Fault.TheVariants.{Unexpected, 
 use Rattle.jesc_jml_grammar.specs.Steps.{Outcome, Parser, and_then, ◌>>◌, refuse, too_deep, mark_at, same_mark, take_one, expect}
 use Rattle.jesc_jml_grammar.specs.Reading.{is_quantifier_mark}
 use Rattle.jesc_jml_grammar.specs.ClauseLists.{until, separated}
-use Rattle.jesc_jml_parser.specs.ClauseSpending.{Later}
-use Rattle.jesc_jml_parser.specs.Spending.{Spent}
+use Rattle.jesc_jml_parser.specs.laws.ClauseSpending.{Later}
+use Rattle.jesc_jml_parser.specs.laws.Spending.{Spent}
 use Rattle.jesc_java_grammar.specs.Lexing.{next_is, take_if}
 
 -- a quantifier of one of the sides stands there

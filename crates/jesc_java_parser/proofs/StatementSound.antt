@@ -6,9 +6,9 @@ use Rattle.jesc_jml_grammar.specs.declared.mark.Mark.{Mark}
 use Rattle.jesc_jml_grammar.specs.declared.mark.Mark.TheVariants as m
 use Rattle.jesc_jml_grammar.specs.Steps.{Parser, mark_at, refuse, too_deep}
 use Rattle.jesc_jml_grammar.specs.Reading.{Parsed, Start}
-use Rattle.jesc_jml_parser.specs.SoundSteps.{Gives, gives_if, gives_so, gives_ok, TakesWhole}
+use Rattle.jesc_jml_parser.specs.laws.SoundSteps.{Gives, gives_if, gives_so, gives_ok, TakesWhole}
 use Rattle.jesc_jml_grammar.specs.ClauseFound.{Sized}
-use Rattle.jesc_jml_parser.specs.ClauseSoundLists.{TakenAs}
+use Rattle.jesc_jml_parser.specs.laws.ClauseSoundLists.{TakenAs}
 use Rattle.jesc_java_grammar.specs.declared.statement_mark.StatementMark.{StatementMark}
 use Rattle.jesc_java_grammar.specs.declared.statement_mark.StatementMark.TheVariants as s
 use Rattle.jesc_java_grammar.specs.declared.statement_mark.Slot.{Slot}
@@ -41,9 +41,9 @@ module _ (limit room : ℕ) (expression : Bool → ℕ → ℕ → ℕ → Start
 
   looping_takes : (slot : Slot) (ts : List Lexeme) → Gives (spec.looping limit room expression k statement slot ts) (TakenAs (IsStatement (suc room) k slot) ts)
   looping_takes slot ts =
-      gives_if (allows_loop slot) (spec.deeper_statement limit room expression k statement (spec.loop limit room expression k statement)) refuse
+      gives_if (allows_loop slot) (spec.deeper_statement limit room expression k statement (spec.loop_ limit room expression k statement)) refuse
       (TakenAs (IsStatement (suc room) k slot) ts) ts
-      (λ e. within slot (spec.loop limit room expression k statement) ts (λ some. loop_takes limit room expression reads k statement inside some slot e ts))
+      (λ e. within slot (spec.loop_ limit room expression k statement) ts (λ some. loop_takes limit room expression reads k statement inside some slot e ts))
       (λ e. tt)
 
   branching_takes : (slot : Slot) (ts : List Lexeme) → Gives (spec.statement_by limit room expression k statement slot s.If ts) (TakenAs (IsStatement (suc room) k slot) ts)

@@ -8,7 +8,7 @@ use Rattle.jesc_jml_grammar.specs.declared.mark.Mark.TheVariants as m
 use Rattle.jesc_jml_grammar.specs.Steps.{Outcome, Parser, ◌>>◌, refuse, too_deep, mark_at, same_mark, pure}
 use Rattle.jesc_jml_grammar.specs.Reading.{Parsed}
 use Rattle.jesc_jml_grammar.specs.ClauseFound.{Sized, no_items, with_more}
-use Rattle.jesc_jml_parser.specs.ClauseSpending.{Later}
+use Rattle.jesc_jml_parser.specs.laws.ClauseSpending.{Later}
 use Rattle.jesc_java_grammar.specs.declared.statement_mark.StatementMark.{StatementMark}
 use Rattle.jesc_java_grammar.specs.declared.statement_mark.StatementMark.TheVariants as s
 use Rattle.jesc_java_grammar.specs.declared.statement_mark.Slot.{Slot}
@@ -60,7 +60,7 @@ module _ (limit room k : ℕ) (statement : Slot → Parser (Sized Statement)) (i
       after_test limit need (is_sign (codes "{") false) _ (Later b) c ts (λ p mid c1 e1. body_rest no_items b c1 (omega arith) (omega arith) mid)
 
   block_ : (b c : ℕ) → b ≤ c + 1 → 1 ≤ c → (ts : List Lexeme) → S (Later b) c ts (spec.block_ limit room (expression_of limit) k statement ts)
-  unfolding spec.block_ spec.block_behind
+  unfolding spec.block_
   block_ b c le some ts =
       after_test limit need (is_sign (codes "{") false) _ (Later b) c ts (λ p t1 c1 e1.
       after limit need (Later c1) _ (Later b) c1 t1 (spec.body_rest limit room (expression_of limit) k statement no_items t1)
@@ -147,8 +147,8 @@ module _ (limit room k : ℕ) (statement : Slot → Parser (Sized Statement)) (i
   loop_by cs s.For b c le some ts = for_ cs b c le some ts
   loop_by cs _ b c le some ts = tt
 
-  loop : (b c : ℕ) → b ≤ c + 1 → 1 ≤ c → (ts : List Lexeme) → S (Later b) c ts (spec.loop limit room (expression_of limit) k statement ts)
-  unfolding spec.loop
+  loop : (b c : ℕ) → b ≤ c + 1 → 1 ≤ c → (ts : List Lexeme) → S (Later b) c ts (spec.loop_ limit room (expression_of limit) k statement ts)
+  unfolding spec.loop_
   loop b c le some ts =
       after limit need (Later c) _ (Later b) c ts (spec.invariants limit room (expression_of limit) k ts) (parts.invariants limit room k c c (omega arith) some ts) (λ cs mid c1 e1.
       loop_by cs (statement_mark_at mid) b c1 (omega arith) (omega arith) mid)
@@ -208,7 +208,7 @@ module _ (limit room k : ℕ) (statement : Slot → Parser (Sized Statement)) (i
 
   looping : (slot : Slot) (b c : ℕ) → b ≤ c + 1 → 1 ≤ c → (ts : List Lexeme) → S (Later b) c ts (spec.looping limit room (expression_of limit) k statement slot ts)
   looping slot b c le some ts =
-      either limit need (Later b) c (allows_loop slot) _ refuse ts (roomy (spec.loop limit room (expression_of limit) k statement) b c ts (loop b c le some ts)) tt
+      either limit need (Later b) c (allows_loop slot) _ refuse ts (roomy (spec.loop_ limit room (expression_of limit) k statement) b c ts (loop b c le some ts)) tt
 
   other_by : (mark : Mark) (b c : ℕ) → b ≤ c + 1 → 1 ≤ c → (ts : List Lexeme) → S (Later b) c ts (spec.other_by limit room (expression_of limit) k statement mark ts)
   other_by m.Semicolon b c le some ts = words.nothing limit room k b c le some ts

@@ -8,9 +8,9 @@ use Rattle.jesc_jml_grammar.specs.declared.mark.Mark.TheVariants as m
 use Rattle.jesc_jml_grammar.specs.declared.fault.Fault.TheVariants.{Unexpected}
 use Rattle.jesc_jml_grammar.specs.Steps.{Parser, mark_at, too_deep, refuse, same_mark, ◌>>=◌, expect}
 use Rattle.jesc_jml_grammar.specs.Reading.{Parsed, Start, at_first, opens_at, is_type_mark}
-use Rattle.jesc_jml_grammar.specs.Refining.{Refines, refines_pure, refines_refuse, refines_deep, refines_peek, refines_bind, refines_if, refines_expect, mark_at-head}
+use Rattle.jesc_jml_grammar.specs.laws.Refining.{Refines, refines_pure, refines_refuse, refines_deep, refines_peek, refines_bind, refines_if, refines_expect, mark_at-head}
 use Rattle.jesc_jml_grammar.specs.ClauseFound.{Sized, no_items, with_more}
-use Rattle.jesc_jml_grammar.specs.ClauseLists.{refines_until}
+use Rattle.jesc_jml_grammar.specs.laws.ListRefining.{refines_until}
 use Rattle.jesc_java_grammar.specs.declared.statement_mark.StatementMark.{StatementMark}
 use Rattle.jesc_java_grammar.specs.declared.statement_mark.StatementMark.TheVariants as s
 use Rattle.jesc_java_grammar.specs.declared.statement_mark.Slot.{Slot}
@@ -18,7 +18,6 @@ use Rattle.jesc_java_grammar.specs.declared.statement_mark.Slot.TheVariants as s
 use Rattle.jesc_java_grammar.specs.Lexing.{is_word, is_sign, take_if}
 use Rattle.jesc_java_grammar.specs.StatementMarks.{statement_mark_at, allows_branch, allows_loop, begins_plain, begins}
 use Rattle.jesc_java_grammar.specs.StatementReading as spec
-use Rattle.jesc_java_grammar.specs.StatementReading.{Piece}
 use Rattle.jesc_java_parser.proofs.LexingStable.{statement_mark_at-head, by_next, by_brace, refines_see_if, refines_take_if, refines_peek_statement}
 use Rattle.jesc_java_parser.proofs.PartStable.{refines_deeper, refines_simple_statement, refines_super_statement, refines_optional_value, refines_condition, refines_invariants, refines_returned, refines_thrown, refines_broken, refines_continued, refines_nothing, refines_asserted, refines_set, refines_ghost, refines_for_first, refines_for_last}
 
@@ -63,13 +62,9 @@ module _ (same : Bool) (limit limit' : ℕ) (limits : limit ≤ limit') (room ro
   unfolding spec.braced
   refines_braced = link _ _ _ _ (taking (is_sign (codes "{") false)) (λ p. refines_body_rest no_items)
 
-  refines_block_behind : (p : Lexeme) → Refines same (spec.block_behind limit room less k f p) (spec.block_behind limit' room' more k' g p)
-  unfolding spec.block_behind
-  refines_block_behind p = link _ _ _ _ (refines_body_rest no_items) (λ b. refines_pure same _)
-
   refines_block : Refines same (spec.block_ limit room less k f) (spec.block_ limit' room' more k' g)
   unfolding spec.block_
-  refines_block = link _ _ _ _ (taking (is_sign (codes "{") false)) refines_block_behind
+  refines_block = link _ _ _ _ (taking (is_sign (codes "{") false)) (λ p. link _ _ _ _ (refines_body_rest no_items) (λ b. refines_pure same _))
 
   refines_super_first : Refines same (spec.super_first limit room less k f) (spec.super_first limit' room' more k' g)
   unfolding spec.super_first
@@ -123,8 +118,8 @@ module _ (same : Bool) (limit limit' : ℕ) (limits : limit ≤ limit') (room ro
   refines_loop_by cs s.For = refines_for cs
   refines_loop_by cs _ = refines_refuse same
 
-  refines_loop : Refines same (spec.loop limit room less k f) (spec.loop limit' room' more k' g)
-  unfolding spec.loop
+  refines_loop : Refines same (spec.loop_ limit room less k f) (spec.loop_ limit' room' more k' g)
+  unfolding spec.loop_
   refines_loop = link _ _ _ _ (refines_invariants same limit limit' limits room room' rooms same_rooms less more h k k' ks same_ks)
       (λ cs. link _ _ _ _ (refines_peek_statement same) (refines_loop_by cs))
 
@@ -204,11 +199,20 @@ closed : (mark : Mark) → begins_plain mark ≡ false → opens_at 13 mark ≡ 
 closed m.Semicolon e = absurd cc
 closed mark e = or_right (is_type_mark mark) (opens_at 13 mark) e
 
+no_paren : (mark : Mark) → opens_at 13 mark ≡ false → same_mark mark m.LeftParen ≡ false
+unfolding same_mark
+no_paren m.LeftParen e = absurd cc
+no_paren _ e = refl
+
 module _ (limit room : ℕ) (more : Bool → ℕ → ℕ → ℕ → Start → Parser Parsed) (k : ℕ) (g : Slot → Parser (Sized Statement)) (ts : List Lexeme)
     (shut : opens_at 13 (mark_at false ts) ≡ false → more false (room - 1) k 13 at_first ts ≡ Err (Unexpected (length ts))) where
+  shut_first : opens_at 13 (mark_at false ts) ≡ false → spec.headed_first limit room more k false ts ≡ Err (Unexpected (length ts))
+  unfolding spec.headed_first
+  shut_first e = rw (no_paren (mark_at false ts) e) (shut e)
+
   shut_headed : opens_at 13 (mark_at false ts) ≡ false → spec.headed_act limit room more k true ts ≡ Err (Unexpected (length ts))
   unfolding spec.headed_act spec.headed
-  shut_headed e = rw (shut e) refl
+  shut_headed e = rw (shut_first e) refl
 
   shut_plain : (mark : Mark) → begins_plain mark ≡ false → spec.headed_act limit room more k true ts ≡ Err (Unexpected (length ts))
       → spec.plain_by limit room more k true true mark ts ≡ Err (Unexpected (length ts))

@@ -11,13 +11,13 @@ use Rattle.jesc_jml_grammar.specs.Marks.{lexeme_mark}
 use Rattle.jesc_jml_grammar.specs.Steps.{Parser, mark_at, expect}
 use Rattle.jesc_jml_grammar.specs.Reading as reading
 use Rattle.jesc_jml_grammar.specs.Reading.{Parsed, Start}
-use Rattle.jesc_jml_parser.specs.SoundMarks.{marked}
-use Rattle.jesc_jml_parser.specs.SoundPieces.{super_call_piece}
-use Rattle.jesc_jml_parser.specs.SoundSteps.{Gives, gives_bind, gives_so, took, Taken, TakesWhole}
-use Rattle.jesc_jml_parser.specs.SoundCalls.{TakenCall, called_takes, arguments_takes}
-use Rattle.jesc_jml_parser.specs.SoundLonger.{climb_takes}
+use Rattle.jesc_jml_parser.specs.laws.SoundMarks.{marked}
+use Rattle.jesc_jml_parser.specs.laws.SoundPieces.{super_call_piece}
+use Rattle.jesc_jml_parser.specs.laws.SoundSteps.{Gives, gives_bind, gives_so, took, Taken, TakesWhole}
+use Rattle.jesc_jml_parser.specs.laws.SoundCalls.{TakenCall, called_takes, arguments_takes}
+use Rattle.jesc_jml_parser.specs.laws.SoundLonger.{climb_takes}
 use Rattle.jesc_jml_grammar.specs.ClauseFound.{Sized}
-use Rattle.jesc_jml_parser.specs.ClauseSoundLists.{TakenAs}
+use Rattle.jesc_jml_parser.specs.laws.ClauseSoundLists.{TakenAs}
 use Rattle.jesc_java_grammar.specs.StatementReading as spec
 use Rattle.jesc_java_parser.proofs.PieceSound.{IsPiece, resized, deeper_takes, acted_takes}
 use Rattle.jesc_java_parser.proofs.PartSound.{IsPlainRead, finished_read}

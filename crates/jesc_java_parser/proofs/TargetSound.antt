@@ -13,12 +13,12 @@ use Rattle.jesc_jml_grammar.specs.Marks.{lexeme_mark}
 use Rattle.jesc_jml_grammar.specs.Steps.{Parser, pure, refuse, mark_at, same_mark, expect}
 use Rattle.jesc_jml_grammar.specs.Reading as reading
 use Rattle.jesc_jml_grammar.specs.Reading.{Parsed, Start, at_first, behind_name, behind_bracket, binds, needs, grows, leaf, over, over_two, word_of, call_of}
-use Rattle.jesc_jml_parser.specs.SoundPieces.{IsSpelled, name_piece, member_piece, index_piece, own_call_piece, call_piece}
-use Rattle.jesc_jml_parser.specs.SoundSteps.{Gives, gives_bind, gives_if, gives_so, took, start_lexemes, IsStart, TakesWhole}
-use Rattle.jesc_jml_parser.specs.SoundCalls.{TakenCall, called_takes}
-use Rattle.jesc_jml_parser.specs.ClauseSoundLists.{TakenAs}
+use Rattle.jesc_jml_parser.specs.laws.SoundPieces.{IsSpelled, name_piece, member_piece, index_piece, own_call_piece, call_piece}
+use Rattle.jesc_jml_parser.specs.laws.SoundSteps.{Gives, gives_bind, gives_if, gives_so, took, start_lexemes, IsStart, TakesWhole}
+use Rattle.jesc_jml_parser.specs.laws.SoundCalls.{TakenCall, called_takes}
+use Rattle.jesc_jml_parser.specs.laws.ClauseSoundLists.{TakenAs}
 use Rattle.jesc_java_grammar.specs.StatementReading as spec
-use Rattle.jesc_java_parser.proofs.PieceSound.{TakenTree, fitted, resized, deeper_takes}
+use Rattle.jesc_java_parser.proofs.PieceSound.{TakenTree, fitted, resized, deeper_takes, headed_first_takes}
 
 -- ---- what is read
 
@@ -174,7 +174,7 @@ module _ (limit room : ℕ) (expression : Bool → ℕ → ℕ → ℕ → Start
   pub headed_target_takes : (ts : List Lexeme) → Gives (spec.headed_target limit room expression k note ts) (TakenTree note room k ts)
   unfolding spec.headed_target
   headed_target_takes ts =
-      gives_bind _ _ (expression note (room - 1) k 13 at_first ts) (reads note (room - 1) k 13 (omega arith) at_first tt ts) (λ a mid h.
+      gives_bind _ _ (spec.headed_first limit room expression k note ts) (headed_first_takes limit room expression reads k note ts) (λ a mid h.
       target_longer_takes ts room a h.taken mid h.parts (resized note (room - 1) room k h.taken a h.is (omega arith)))
 
   named_target_takes : (ts : List Lexeme) → Gives (spec.named_target limit room expression k note ts) (TakenTree note room k ts)

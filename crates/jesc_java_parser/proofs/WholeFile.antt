@@ -1,22 +1,19 @@
 -- The parser of files gives the only file that the lexemes spell, and refuses where none goes on.
 use Rattle.std.proofs.Common.{◌≡◌, ℕ, ◌+◌, ◌-◌, ◌≤◌, ◌<◌, true, false, List, [], ◌∷◌, ◌++◌, length, take, drop, Ok, Err, refl, sym, ap, ◌∙◌, subst, arith}
 use Rattle.std.proofs.lemmas.List.{take-append-drop}
-use Rattle.jesc_lexer.specs.declared.token.Tokens.{Tokens}
-use Rattle.jesc_ast.specs.declared.class.File.{File}
-use Rattle.jesc_ast.specs.Lexemes.{Lexeme, lexemes}
-use Rattle.jesc_ast.specs.FileTrees.{SourceUnit, file_view}
+use Rattle.jesc_ast.specs.Lexemes.{Lexeme}
+use Rattle.jesc_ast.specs.FileTrees.{SourceUnit}
 use Rattle.jesc_ast.specs.Depth.{depth, nesting, of_classes, IsFileWithinLimits}
-use Rattle.jesc_ast.specs.Members.{SpellsFile}
+use Rattle.jesc_ast.specs.Members.{SpellsUnit}
 use Rattle.jesc_jml_grammar.specs.declared.fault.Fault.{Fault}
 use Rattle.jesc_jml_grammar.specs.declared.fault.Fault.TheVariants.{Unexpected, Deep}
-use Rattle.jesc_jml_grammar.specs.Steps.{Outcome}
-use Rattle.jesc_jml_grammar.specs.Refining.{head, ok_is, Stops}
-use Rattle.jesc_jml_parser.specs.Places.{split_at, one_more}
+use Rattle.jesc_jml_grammar.specs.Steps.{Outcome, head}
+use Rattle.jesc_jml_grammar.specs.laws.Refining.{ok_is, Stops}
+use Rattle.jesc_jml_parser.specs.laws.Places.{split_at, one_more}
 use Rattle.jesc_jml_grammar.specs.ClauseFound.{Sized, sized}
 use Rattle.jesc_jml_parser.specs.LongestAnswers.{IsRefused, IsStuck}
 use Rattle.jesc_java_grammar.specs.FileReading.{whole_file}
 use Rattle.jesc_java_parser.proofs.FileStable.{refines_whole_file}
-use Rattle.jesc_java_parser.specs.Units.{SpellsUnit}
 use Rattle.jesc_java_parser.proofs.CompleteFile.{file_complete}
 
 abbrev deepest : SourceUnit → ℕ
@@ -32,16 +29,6 @@ apart : (t : SourceUnit) (f : Fault) (r : Outcome (Sized SourceUnit)) → r ≡ 
 apart t f r e g = cc
 
 -- ---- one file
-
--- what the program's file stands for is spelled as it is
-pub unit_of_file : (tokens : Tokens) (file : File) → SpellsFile tokens file → SpellsUnit (file_view file) (lexemes tokens)
-unit_of_file tokens file s = record {
-  package_part = s.package_part;
-  class_part = s.class_part;
-  whole = s.whole;
-  package_spelled = s.package_spelled;
-  classes_spelled = s.classes_spelled;
-}
 
 -- within the limits it is read, and nothing else is
 pub file_only : (limit : ℕ) (ts : List Lexeme) (t : SourceUnit) → length ts < limit → SpellsUnit t ts → IsFileWithinLimits t → whole_file limit 200 3 ts ≡ answer t

@@ -8,10 +8,10 @@ use Rattle.jesc_jml_grammar.specs.declared.mark.Mark.TheVariants as m
 use Rattle.jesc_jml_grammar.specs.Marks.{lexeme_mark}
 use Rattle.jesc_jml_grammar.specs.Steps.{Parser, expect}
 use Rattle.jesc_jml_grammar.specs.Reading.{Parsed, Start}
-use Rattle.jesc_jml_parser.specs.SoundMarks.{marked}
-use Rattle.jesc_jml_parser.specs.SoundSteps.{Gives, gives_bind, took, TakesWhole}
-use Rattle.jesc_jml_parser.specs.SoundCalls.{type_takes}
-use Rattle.jesc_jml_parser.specs.ClauseSoundLists.{TakenAs}
+use Rattle.jesc_jml_parser.specs.laws.SoundMarks.{marked}
+use Rattle.jesc_jml_parser.specs.laws.SoundSteps.{Gives, gives_bind, took, TakesWhole}
+use Rattle.jesc_jml_parser.specs.laws.SoundCalls.{type_takes}
+use Rattle.jesc_jml_parser.specs.laws.ClauseSoundLists.{TakenAs}
 use Rattle.jesc_java_grammar.specs.Lexing.{is_sign, is_word, take_if}
 use Rattle.jesc_java_grammar.specs.StatementReading as spec
 use Rattle.jesc_java_grammar.specs.StatementReading.{GhostHead}

@@ -3,7 +3,7 @@ use Rattle.std.proofs.Common.{ℕ, ◌+◌, ◌-◌, ◌≤◌, false, true, Lis
 use Rattle.jesc_ast.specs.Lexemes.{Lexeme}
 use Rattle.jesc_jml_grammar.specs.declared.mark.Mark.TheVariants as m
 use Rattle.jesc_jml_grammar.specs.Steps.{Outcome}
-use Rattle.jesc_jml_parser.specs.ClauseSpending.{Later}
+use Rattle.jesc_jml_parser.specs.laws.ClauseSpending.{Later}
 use Rattle.jesc_java_grammar.specs.Lexing.{is_word, is_sign}
 use Rattle.jesc_java_grammar.specs.StatementFound.{GhostHead, return_of, throw_of, break_of, continue_of, empty_of, assertion_of, set_of, ghost_of}
 use Rattle.jesc_java_grammar.specs.StatementReading as spec

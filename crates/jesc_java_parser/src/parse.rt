@@ -7,12 +7,11 @@ ghost use Rattle.jesc_ast.specs.Depth.{IsFileWithinLimits};
 ghost use Rattle.jesc_ast.specs.FileTrees.{SourceUnit, file_view};
 ghost use Rattle.jesc_ast.specs.Lexemes.{Lexeme as Piece, is_within, lexemes};
 ghost use Rattle.jesc_ast.specs.Lines.{lines_of as lines_of_text};
-ghost use Rattle.jesc_ast.specs.Members.{SpellsFile};
-ghost use Rattle.jesc_jml_parser.specs.ParsedTrees.{IsTreeRefusal};
+ghost use Rattle.jesc_ast.specs.Members.{SpellsUnit, SpellsFile};
+ghost use Rattle.jesc_jml_parser.specs.ParsedTrees.{IsTreeRefusal, IsAnswer};
 ghost use Rattle.jesc_jml_grammar.specs.Reading.{turns};
 ghost use Rattle.jesc_java_grammar.specs.FileReading.{whole_file};
 ghost use Rattle.jesc_java_grammar.specs.GivenUnits.{IsUnitGiven};
-ghost use Rattle.jesc_java_parser.specs.Units.{SpellsUnit, IsUnitAnswer};
 ghost use Rattle.jesc_java_grammar.specs.UnitViews.{unit_view};
 
 use jesc_ast::File;
@@ -68,7 +67,7 @@ pub fn parse_file(alloc: Global, tokens: &Tokens) -> Result<File, SyntaxError>
     requires spans { AreSpans (length tokens.now.text) 0 tokens.now.list }
     requires short { length tokens.now.text ≤ 1048576 }
     ensures found { IfOk result (λ file. SpellsFile tokens.now file × IsFileWithinLimits (file_view file)) }
-    ensures only { (t : SourceUnit) → SpellsUnit t (lexemes tokens.now) → IsFileWithinLimits t → IsUnitAnswer t result }
+    ensures only { (t : SourceUnit) → SpellsUnit t (lexemes tokens.now) → IsFileWithinLimits t → IsAnswer (λ file. file_view file ≡ t) result }
     ensures refused { IfErr result (λ error. IsTreeRefusal SpellsUnit IsFileWithinLimits tokens.now 0 error) }
 {
     match read_unit(alloc, tokens) {
