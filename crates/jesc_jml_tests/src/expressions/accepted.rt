@@ -1,479 +1,294 @@
-//! Texts that are an expression, with its tree.
+//! Texts that are an expression as a whole, and end where one of a few texts stands behind them.
 
-/// A text and its tree.
-pub type Case = (&'static str, &'static str);
+use crate::reading::{CODE, NOTE, expect_texts};
 
-/// A text, what stands behind it and goes on with no expression, and the text's tree.
-pub type Ending = (&'static str, &'static str, &'static str);
+/// What stands behind each text, and goes on with no expression.
+const ENDINGS: [&str; 3] = [";", " )", " goto b"];
 
-// Single tokens, and parentheses.
-pub const LEAVES: [Case; 22] = [
-    ("a", "a"),
-    ("$a_1", "$a_1"),
-    ("é", "é"),
-    ("0", "0"),
-    ("12L", "12L"),
-    ("1_000l", "1_000l"),
-    ("2147483648", "2147483648"),
-    ("true", "true"),
-    ("false", "false"),
-    ("null", "null"),
-    ("this", "this"),
-    ("requires", "requires"),
-    ("old", "old"),
-    ("assume", "assume"),
-    ("record", "record"),
-    ("var", "var"),
-    ("_redundantly", "_redundantly"),
-    ("(a)", "paren(a)"),
-    ("(0)", "paren(0)"),
-    ("(this)", "paren(this)"),
-    ("((a))", "paren(paren(a))"),
-    ("(((0)))", "paren(paren(paren(0)))"),
-];
+/// Expressions in code and in annotations.
+const BOTH: &str = r"
+# Single tokens, and parentheses.
+a
+$a_1
+é
+0
+12L
+1_000l
+2147483648
+true
+false
+null
+this
+requires
+old
+assume
+record
+var
+_redundantly
+(a)
+(0)
+(this)
+((a))
+(((0)))
+# Each operator alone, and with one of its own strength.
+a || b
+a && b
+a == b
+a != b
+a < b
+a <= b
+a > b
+a >= b
+a + b
+a - b
+a * b
+a / b
+a % b
+a instanceof A
+a instanceof A[]
+a instanceof int
+a instanceof boolean[]
+a ? b : c
+-a
++a
+!a
+a || b || c
+a && b && c
+a == b == c
+a != b == c != d
+a < b < c
+a < b <= c > d >= e
+a - b - c
+a - b + c
+a + b - c + d
+a / b / c
+a * b / c % d
+a instanceof A instanceof B
+a < b instanceof A
+a instanceof A < b
+a ? b : c ? d : e
+a ? b ? c : d : e
+- -a
+!!a
++ -!a
+# Operators of different strength side by side.
+a || b && c
+a && b || c
+a && b == c
+a != b && c
+a == b < c
+a >= b != c
+a == b instanceof A
+a instanceof A == b
+a instanceof A[] && b
+a instanceof A ? b : c
+a + b instanceof A
+a <= b + c
+a - b > c
+a <-b
+a + b * c
+a % b - c
+a - b * c - d
+a * -b
+-a * b
+a - -b
+a + +b - -c
+!a == b
+!a instanceof A
+-a.b
+-a[0]
+!a.b(c)
+a || b && c == d < e + f * -g
+-a * b + c < d == e && f || g
+a || b ? c || d : e || f
+a ? -b : c + d
+(a ? b : c) ? d : e
+a - (b - c)
+(a - b) - c
+(a || b) && c
+-(a + b)
+(a + b) * (c - d)
+(a + b).c
+(-a)
+a * (b) - c
+# Casts, and names in parentheses.
+(a) b
+(a) (b)
+(a)(b)
+(a) (b) c
+(a) !b
+(a) 0
+(a) null
+(a) this
+(a) new A()
+(a) super.m()
+(a) (-b)
+(a) + b
+(a) - b
+(a) -b
+(a) * b
+(a) == b
+(a) && b
+(a) < b
+(a) ? b : c
+(a) instanceof b
+(a).b
+(a).b()
+(a)[0]
+(a[0])
+(a[0].b) + c
+(a[0] + b)
+(a.b)
+(a())
+(a(b) + c)
+(a instanceof A)
+(int) a
+(long) a
+(boolean) a
+(int) -a
+(int) +a
+(int) (a + b)
+(a[]) b
+(a[]) -b
+(int[]) a
+(long[]) (a) b
+(int) a.b
+(a) b[0]
+(a) m(b)
+(int) (long) -a
+-(int) a
+-(a) b
+-(a) - b
+!(boolean) a
+(int) a + b
+(a) b + c
+(a) (b) + c
+a * (int) b
+a - (b) c
+a - (b) - c
+(a) b instanceof c
+((a) b)
+((a) b).c
+((a) + b)
+((a[]) b)[0]
+# New objects and arrays, calls, members and indices.
+new A()
+new A(1, b + c)
+new A().b
+new A().m()
+new A()[0]
+new int[3]
+new long[n]
+new boolean[a + b]
+new A[n]
+new A[n].length
+new A[n].m()
+new A[n].b[0]
+(new int[3])[0]
+new int[new A[n].length]
+new int[a[0]]
+-new int[3].length
+new int[3] == a
+new A(new B(), new int[0])
+m()
+m(a)
+m(a, b, c)
+m(a ? b : c, (d) e)
+m(n(a), b)
+m() + n()
+m()[0].b
+a.m()
+a.b.m(c)
+a.m().n(b, c)
+a[0].m()
+this.a
+this.m(this)
+super.m()
+super.m(1, 2)
+super.m().b
+super.m()[0] + 1
+a.b.c
+a.b[0].c
+a[0][1]
+a[b[c]]
+a[b - c - d]
+a[b][c].d(e)[f]
+a.var.record
+null.a
+1.a
+0[0]
+";
 
-// Each operator alone, and with one of its own strength.
-pub const OPERATORS: [Case; 40] = [
-    ("a || b", "(a || b)"),
-    ("a && b", "(a && b)"),
-    ("a == b", "(a == b)"),
-    ("a != b", "(a != b)"),
-    ("a < b", "(a < b)"),
-    ("a <= b", "(a <= b)"),
-    ("a > b", "(a > b)"),
-    ("a >= b", "(a >= b)"),
-    ("a + b", "(a + b)"),
-    ("a - b", "(a - b)"),
-    ("a * b", "(a * b)"),
-    ("a / b", "(a / b)"),
-    ("a % b", "(a % b)"),
-    ("a instanceof A", "(a instanceof A)"),
-    ("a instanceof A[]", "(a instanceof A[])"),
-    ("a instanceof int", "(a instanceof int)"),
-    ("a instanceof boolean[]", "(a instanceof boolean[])"),
-    ("a ? b : c", "(a ? b : c)"),
-    ("-a", "(- a)"),
-    ("+a", "(+ a)"),
-    ("!a", "(! a)"),
-    ("a || b || c", "((a || b) || c)"),
-    ("a && b && c", "((a && b) && c)"),
-    ("a == b == c", "((a == b) == c)"),
-    ("a != b == c != d", "(((a != b) == c) != d)"),
-    ("a < b < c", "((a < b) < c)"),
-    ("a < b <= c > d >= e", "((((a < b) <= c) > d) >= e)"),
-    ("a - b - c", "((a - b) - c)"),
-    ("a - b + c", "((a - b) + c)"),
-    ("a + b - c + d", "(((a + b) - c) + d)"),
-    ("a / b / c", "((a / b) / c)"),
-    ("a * b / c % d", "(((a * b) / c) % d)"),
-    (
-        "a instanceof A instanceof B",
-        "((a instanceof A) instanceof B)",
-    ),
-    ("a < b instanceof A", "((a < b) instanceof A)"),
-    ("a instanceof A < b", "((a instanceof A) < b)"),
-    ("a ? b : c ? d : e", "(a ? b : (c ? d : e))"),
-    ("a ? b ? c : d : e", "(a ? (b ? c : d) : e)"),
-    ("- -a", "(- (- a))"),
-    ("!!a", "(! (! a))"),
-    ("+ -!a", "(+ (- (! a)))"),
-];
+#[test]
+fn on_both_sides(rt: HostRuntime) {
+    expect_texts(&rt, rt.alloc(), CODE, BOTH, &ENDINGS);
+    expect_texts(&rt, rt.alloc(), NOTE, BOTH, &ENDINGS);
+}
 
-// Operators of different strength side by side.
-pub const STRENGTHS: [Case; 39] = [
-    ("a || b && c", "(a || (b && c))"),
-    ("a && b || c", "((a && b) || c)"),
-    ("a && b == c", "(a && (b == c))"),
-    ("a != b && c", "((a != b) && c)"),
-    ("a == b < c", "(a == (b < c))"),
-    ("a >= b != c", "((a >= b) != c)"),
-    ("a == b instanceof A", "(a == (b instanceof A))"),
-    ("a instanceof A == b", "((a instanceof A) == b)"),
-    ("a instanceof A[] && b", "((a instanceof A[]) && b)"),
-    ("a instanceof A ? b : c", "((a instanceof A) ? b : c)"),
-    ("a + b instanceof A", "((a + b) instanceof A)"),
-    ("a <= b + c", "(a <= (b + c))"),
-    ("a - b > c", "((a - b) > c)"),
-    ("a <-b", "(a < (- b))"),
-    ("a + b * c", "(a + (b * c))"),
-    ("a % b - c", "((a % b) - c)"),
-    ("a - b * c - d", "((a - (b * c)) - d)"),
-    ("a * -b", "(a * (- b))"),
-    ("-a * b", "((- a) * b)"),
-    ("a - -b", "(a - (- b))"),
-    ("a + +b - -c", "((a + (+ b)) - (- c))"),
-    ("!a == b", "((! a) == b)"),
-    ("!a instanceof A", "((! a) instanceof A)"),
-    ("-a.b", "(- (a . b))"),
-    ("-a[0]", "(- index(a, 0))"),
-    ("!a.b(c)", "(! call(a.b, c))"),
-    (
-        "a || b && c == d < e + f * -g",
-        "(a || (b && (c == (d < (e + (f * (- g)))))))",
-    ),
-    (
-        "-a * b + c < d == e && f || g",
-        "(((((((- a) * b) + c) < d) == e) && f) || g)",
-    ),
-    (
-        "a || b ? c || d : e || f",
-        "((a || b) ? (c || d) : (e || f))",
-    ),
-    ("a ? -b : c + d", "(a ? (- b) : (c + d))"),
-    ("(a ? b : c) ? d : e", "(paren((a ? b : c)) ? d : e)"),
-    ("a - (b - c)", "(a - paren((b - c)))"),
-    ("(a - b) - c", "(paren((a - b)) - c)"),
-    ("(a || b) && c", "(paren((a || b)) && c)"),
-    ("-(a + b)", "(- paren((a + b)))"),
-    ("(a + b) * (c - d)", "(paren((a + b)) * paren((c - d)))"),
-    ("(a + b).c", "(paren((a + b)) . c)"),
-    ("(-a)", "paren((- a))"),
-    ("a * (b) - c", "((a * paren(b)) - c)"),
-];
+/// Expressions in annotations alone.
+const NOTES: &str = r"
+\result
+\result.a
+\result[0].m()
+(\result)
+-\result - 1
+\old(a)
+\old(a + b) + c
+\old(a).b
+\old(a)[0]
+\old((a))
+\old(\old(a) ==> b)
+-\old(a)
+\fresh(a)
+!\fresh(\result) && b
+(a) \old(b)
+(a) \result
+(a) \fresh(b)
+a ==> b
+a <==> b
+a <=!=> b
+a ==> b ==> c
+a ==> b ==> c ==> d
+a <==> b <==> c
+a <==> b <=!=> c
+a <=!=> b <==> c
+a ==> b <==> c
+a <==> b ==> c
+a ==> b <==> c ==> d
+a ==> b ==> c <=!=> d
+a || b ==> c
+a ==> b || c
+a ==> b || c ==> d
+a || b <==> c || d
+a ==> b ? c : d
+a <==> b ? c : d
+a ? b ==> c : d <=!=> e
+a && !b ==> c == d
+(a ==> b) ==> c
+# Quantifiers.
+(\forall int i; 0 <= i && i < n; a)
+(\exists int i; 0 < i && i <= n; a)
+(\forall int i; 0 < i && i < n; a ==> b)
+(\exists int i; a + b * c <= i && i <= d - e; f ? g : h)
+(\forall int i; (a < b) <= i && i < (c || d); e)
+(\forall int i; -a <= i && i < !b; c)
+(\forall int i; (a) b <= i && i < (int) c; d)
+(\forall int i; i <= i && i < i; i)
+(\forall int i; (i) <= i && i < (i); i)
+(\forall int i; a[i] <= i && i < m(i); \old(i))
+(\forall int old; 0 < old && old < n; a)
+!(\forall int i; 0 < i && i < n; a)
+(\forall int i; 0 < i && i < n; a) && b
+a ==> (\exists int i; 0 < i && i < n; b)
+((\forall int i; 0 < i && i < n; a))
+(\forall int i; 0 < i && i < n; a).b
+(a) (\forall int i; 0 < i && i < n; b)
+(\forall int i; 0 < i && i < n; (\exists int j; i < j && j <= n; a))
+(\forall int i; 0 < i && i < n; (\forall int i; i < i && i < n; a))
+(\forall int i; (\forall int j; 0 < j && j < n; a) < i && i < (\exists int k; 0 < k && k < n; b); c)
+";
 
-// Casts, and names in parentheses.
-pub const CASTS: [Case; 59] = [
-    ("(a) b", "cast(a, b)"),
-    ("(a) (b)", "cast(a, paren(b))"),
-    ("(a)(b)", "cast(a, paren(b))"),
-    ("(a) (b) c", "cast(a, cast(b, c))"),
-    ("(a) !b", "cast(a, (! b))"),
-    ("(a) 0", "cast(a, 0)"),
-    ("(a) null", "cast(a, null)"),
-    ("(a) this", "cast(a, this)"),
-    ("(a) new A()", "cast(a, new(A))"),
-    ("(a) super.m()", "cast(a, call(super.m))"),
-    ("(a) (-b)", "cast(a, paren((- b)))"),
-    ("(a) + b", "(paren(a) + b)"),
-    ("(a) - b", "(paren(a) - b)"),
-    ("(a) -b", "(paren(a) - b)"),
-    ("(a) * b", "(paren(a) * b)"),
-    ("(a) == b", "(paren(a) == b)"),
-    ("(a) && b", "(paren(a) && b)"),
-    ("(a) < b", "(paren(a) < b)"),
-    ("(a) ? b : c", "(paren(a) ? b : c)"),
-    ("(a) instanceof b", "(paren(a) instanceof b)"),
-    ("(a).b", "(paren(a) . b)"),
-    ("(a).b()", "call(paren(a).b)"),
-    ("(a)[0]", "index(paren(a), 0)"),
-    ("(a[0])", "paren(index(a, 0))"),
-    ("(a[0].b) + c", "(paren((index(a, 0) . b)) + c)"),
-    ("(a[0] + b)", "paren((index(a, 0) + b))"),
-    ("(a.b)", "paren((a . b))"),
-    ("(a())", "paren(call(a))"),
-    ("(a(b) + c)", "paren((call(a, b) + c))"),
-    ("(a instanceof A)", "paren((a instanceof A))"),
-    ("(int) a", "cast(int, a)"),
-    ("(long) a", "cast(long, a)"),
-    ("(boolean) a", "cast(boolean, a)"),
-    ("(int) -a", "cast(int, (- a))"),
-    ("(int) +a", "cast(int, (+ a))"),
-    ("(int) (a + b)", "cast(int, paren((a + b)))"),
-    ("(a[]) b", "cast(a[], b)"),
-    ("(a[]) -b", "cast(a[], (- b))"),
-    ("(int[]) a", "cast(int[], a)"),
-    ("(long[]) (a) b", "cast(long[], cast(a, b))"),
-    ("(int) a.b", "cast(int, (a . b))"),
-    ("(a) b[0]", "cast(a, index(b, 0))"),
-    ("(a) m(b)", "cast(a, call(m, b))"),
-    ("(int) (long) -a", "cast(int, cast(long, (- a)))"),
-    ("-(int) a", "(- cast(int, a))"),
-    ("-(a) b", "(- cast(a, b))"),
-    ("-(a) - b", "((- paren(a)) - b)"),
-    ("!(boolean) a", "(! cast(boolean, a))"),
-    ("(int) a + b", "(cast(int, a) + b)"),
-    ("(a) b + c", "(cast(a, b) + c)"),
-    ("(a) (b) + c", "(cast(a, paren(b)) + c)"),
-    ("a * (int) b", "(a * cast(int, b))"),
-    ("a - (b) c", "(a - cast(b, c))"),
-    ("a - (b) - c", "((a - paren(b)) - c)"),
-    ("(a) b instanceof c", "(cast(a, b) instanceof c)"),
-    ("((a) b)", "paren(cast(a, b))"),
-    ("((a) b).c", "(paren(cast(a, b)) . c)"),
-    ("((a) + b)", "paren((paren(a) + b))"),
-    ("((a[]) b)[0]", "index(paren(cast(a[], b)), 0)"),
-];
-
-// New objects and arrays, calls, members and indices.
-pub const PRIMARIES: [Case; 45] = [
-    ("new A()", "new(A)"),
-    ("new A(1, b + c)", "new(A, 1, (b + c))"),
-    ("new A().b", "(new(A) . b)"),
-    ("new A().m()", "call(new(A).m)"),
-    ("new A()[0]", "index(new(A), 0)"),
-    ("new int[3]", "array(int, 3)"),
-    ("new long[n]", "array(long, n)"),
-    ("new boolean[a + b]", "array(boolean, (a + b))"),
-    ("new A[n]", "array(A, n)"),
-    ("new A[n].length", "(array(A, n) . length)"),
-    ("new A[n].m()", "call(array(A, n).m)"),
-    ("new A[n].b[0]", "index((array(A, n) . b), 0)"),
-    ("(new int[3])[0]", "index(paren(array(int, 3)), 0)"),
-    (
-        "new int[new A[n].length]",
-        "array(int, (array(A, n) . length))",
-    ),
-    ("new int[a[0]]", "array(int, index(a, 0))"),
-    ("-new int[3].length", "(- (array(int, 3) . length))"),
-    ("new int[3] == a", "(array(int, 3) == a)"),
-    (
-        "new A(new B(), new int[0])",
-        "new(A, new(B), array(int, 0))",
-    ),
-    ("m()", "call(m)"),
-    ("m(a)", "call(m, a)"),
-    ("m(a, b, c)", "call(m, a, b, c)"),
-    ("m(a ? b : c, (d) e)", "call(m, (a ? b : c), cast(d, e))"),
-    ("m(n(a), b)", "call(m, call(n, a), b)"),
-    ("m() + n()", "(call(m) + call(n))"),
-    ("m()[0].b", "(index(call(m), 0) . b)"),
-    ("a.m()", "call(a.m)"),
-    ("a.b.m(c)", "call((a . b).m, c)"),
-    ("a.m().n(b, c)", "call(call(a.m).n, b, c)"),
-    ("a[0].m()", "call(index(a, 0).m)"),
-    ("this.a", "(this . a)"),
-    ("this.m(this)", "call(this.m, this)"),
-    ("super.m()", "call(super.m)"),
-    ("super.m(1, 2)", "call(super.m, 1, 2)"),
-    ("super.m().b", "(call(super.m) . b)"),
-    ("super.m()[0] + 1", "(index(call(super.m), 0) + 1)"),
-    ("a.b.c", "((a . b) . c)"),
-    ("a.b[0].c", "(index((a . b), 0) . c)"),
-    ("a[0][1]", "index(index(a, 0), 1)"),
-    ("a[b[c]]", "index(a, index(b, c))"),
-    ("a[b - c - d]", "index(a, ((b - c) - d))"),
-    (
-        "a[b][c].d(e)[f]",
-        "index(call(index(index(a, b), c).d, e), f)",
-    ),
-    ("a.var.record", "((a . var) . record)"),
-    ("null.a", "(null . a)"),
-    ("1.a", "(1 . a)"),
-    ("0[0]", "index(0, 0)"),
-];
-
-// What has a tree in annotations alone.
-pub const NOTES: [Case; 38] = [
-    ("\\result", "\\result"),
-    ("\\result.a", "(\\result . a)"),
-    ("\\result[0].m()", "call(index(\\result, 0).m)"),
-    ("(\\result)", "paren(\\result)"),
-    ("-\\result - 1", "((- \\result) - 1)"),
-    ("\\old(a)", "old(a)"),
-    ("\\old(a + b) + c", "(old((a + b)) + c)"),
-    ("\\old(a).b", "(old(a) . b)"),
-    ("\\old(a)[0]", "index(old(a), 0)"),
-    ("\\old((a))", "old(paren(a))"),
-    ("\\old(\\old(a) ==> b)", "old((old(a) ==> b))"),
-    ("-\\old(a)", "(- old(a))"),
-    ("\\fresh(a)", "fresh(a)"),
-    ("!\\fresh(\\result) && b", "((! fresh(\\result)) && b)"),
-    ("(a) \\old(b)", "cast(a, old(b))"),
-    ("(a) \\result", "cast(a, \\result)"),
-    ("(a) \\fresh(b)", "cast(a, fresh(b))"),
-    ("a ==> b", "(a ==> b)"),
-    ("a <==> b", "(a <==> b)"),
-    ("a <=!=> b", "(a <=!=> b)"),
-    ("a ==> b ==> c", "(a ==> (b ==> c))"),
-    ("a ==> b ==> c ==> d", "(a ==> (b ==> (c ==> d)))"),
-    ("a <==> b <==> c", "((a <==> b) <==> c)"),
-    ("a <==> b <=!=> c", "((a <==> b) <=!=> c)"),
-    ("a <=!=> b <==> c", "((a <=!=> b) <==> c)"),
-    ("a ==> b <==> c", "((a ==> b) <==> c)"),
-    ("a <==> b ==> c", "(a <==> (b ==> c))"),
-    ("a ==> b <==> c ==> d", "((a ==> b) <==> (c ==> d))"),
-    ("a ==> b ==> c <=!=> d", "((a ==> (b ==> c)) <=!=> d)"),
-    ("a || b ==> c", "((a || b) ==> c)"),
-    ("a ==> b || c", "(a ==> (b || c))"),
-    ("a ==> b || c ==> d", "(a ==> ((b || c) ==> d))"),
-    ("a || b <==> c || d", "((a || b) <==> (c || d))"),
-    ("a ==> b ? c : d", "((a ==> b) ? c : d)"),
-    ("a <==> b ? c : d", "((a <==> b) ? c : d)"),
-    ("a ? b ==> c : d <=!=> e", "(a ? (b ==> c) : (d <=!=> e))"),
-    ("a && !b ==> c == d", "((a && (! b)) ==> (c == d))"),
-    ("(a ==> b) ==> c", "(paren((a ==> b)) ==> c)"),
-];
-
-// Quantifiers.
-pub const QUANTIFIERS: [Case; 20] = [
-    (
-        "(\\forall int i; 0 <= i && i < n; a)",
-        "forall(i, 0 <=, < n, a)",
-    ),
-    (
-        "(\\exists int i; 0 < i && i <= n; a)",
-        "exists(i, 0 <, <= n, a)",
-    ),
-    (
-        "(\\forall int i; 0 < i && i < n; a ==> b)",
-        "forall(i, 0 <, < n, (a ==> b))",
-    ),
-    (
-        "(\\exists int i; a + b * c <= i && i <= d - e; f ? g : h)",
-        "exists(i, (a + (b * c)) <=, <= (d - e), (f ? g : h))",
-    ),
-    (
-        "(\\forall int i; (a < b) <= i && i < (c || d); e)",
-        "forall(i, paren((a < b)) <=, < paren((c || d)), e)",
-    ),
-    (
-        "(\\forall int i; -a <= i && i < !b; c)",
-        "forall(i, (- a) <=, < (! b), c)",
-    ),
-    (
-        "(\\forall int i; (a) b <= i && i < (int) c; d)",
-        "forall(i, cast(a, b) <=, < cast(int, c), d)",
-    ),
-    (
-        "(\\forall int i; i <= i && i < i; i)",
-        "forall(i, i <=, < i, i)",
-    ),
-    (
-        "(\\forall int i; (i) <= i && i < (i); i)",
-        "forall(i, paren(i) <=, < paren(i), i)",
-    ),
-    (
-        "(\\forall int i; a[i] <= i && i < m(i); \\old(i))",
-        "forall(i, index(a, i) <=, < call(m, i), old(i))",
-    ),
-    (
-        "(\\forall int old; 0 < old && old < n; a)",
-        "forall(old, 0 <, < n, a)",
-    ),
-    (
-        "!(\\forall int i; 0 < i && i < n; a)",
-        "(! forall(i, 0 <, < n, a))",
-    ),
-    (
-        "(\\forall int i; 0 < i && i < n; a) && b",
-        "(forall(i, 0 <, < n, a) && b)",
-    ),
-    (
-        "a ==> (\\exists int i; 0 < i && i < n; b)",
-        "(a ==> exists(i, 0 <, < n, b))",
-    ),
-    (
-        "((\\forall int i; 0 < i && i < n; a))",
-        "paren(forall(i, 0 <, < n, a))",
-    ),
-    (
-        "(\\forall int i; 0 < i && i < n; a).b",
-        "(forall(i, 0 <, < n, a) . b)",
-    ),
-    (
-        "(a) (\\forall int i; 0 < i && i < n; b)",
-        "cast(a, forall(i, 0 <, < n, b))",
-    ),
-    (
-        "(\\forall int i; 0 < i && i < n; (\\exists int j; i < j && j <= n; a))",
-        "forall(i, 0 <, < n, exists(j, i <, <= n, a))",
-    ),
-    (
-        "(\\forall int i; 0 < i && i < n; (\\forall int i; i < i && i < n; a))",
-        "forall(i, 0 <, < n, forall(i, i <, < n, a))",
-    ),
-    (
-        "(\\forall int i; (\\forall int j; 0 < j && j < n; a) < i && i < (\\exists int k; 0 < k && k < n; b); c)",
-        "forall(i, forall(j, 0 <, < n, a) <, < exists(k, 0 <, < n, b), c)",
-    ),
-];
-
-// Where an expression ends, on both sides.
-pub const ENDINGS: [Ending; 52] = [
-    ("a", " b", "a"),
-    ("a", " 0", "a"),
-    ("a", " this", "a"),
-    ("a", " !b", "a"),
-    ("a", " = b", "a"),
-    ("a", " += b", "a"),
-    ("a", "++", "a"),
-    ("a", "--b", "a"),
-    ("a", "+++b", "a"),
-    ("a", " : b", "a"),
-    ("a", ", b", "a"),
-    ("a", "]", "a"),
-    ("a", " {", "a"),
-    ("a", " @ b", "a"),
-    ("a", " instanceofs b", "a"),
-    ("a", " assert b", "a"),
-    ("0", "(b)", "0"),
-    ("this", "(a)", "this"),
-    ("a.b", " c", "(a . b)"),
-    ("a[0]", "(b)", "index(a, 0)"),
-    ("a[0]", " = b", "index(a, 0)"),
-    ("m()", "()", "call(m)"),
-    ("a.m()", "(b)", "call(a.m)"),
-    ("a + b", " c", "(a + b)"),
-    ("a ? b : c", " : d", "(a ? b : c)"),
-    ("(a)", " goto", "paren(a)"),
-    ("(a)", " int", "paren(a)"),
-    ("(a)", " assert b", "paren(a)"),
-    ("(a)", " = b", "paren(a)"),
-    ("(a)", " ++b", "paren(a)"),
-    ("(a)", " --b", "paren(a)"),
-    ("(a)", ", b", "paren(a)"),
-    ("(a)", "]", "paren(a)"),
-    ("(a) b", " c", "cast(a, b)"),
-    ("((a))", " b", "paren(paren(a))"),
-    ("(0)", " b", "paren(0)"),
-    ("(this)", " b", "paren(this)"),
-    ("(a.b)", " c", "paren((a . b))"),
-    ("(a[0])", " b", "paren(index(a, 0))"),
-    ("(a())", " (b)", "paren(call(a))"),
-    ("(a + b)", " c", "paren((a + b))"),
-    ("new A()", "(b)", "new(A)"),
-    ("new int[3]", "[0]", "array(int, 3)"),
-    ("new A[n]", "[0].b", "array(A, n)"),
-    ("new A[n]", "(b)", "array(A, n)"),
-    ("-new int[3]", "[0]", "(- array(int, 3))"),
-    ("(a) new int[3]", "[0]", "cast(a, array(int, 3))"),
-    ("a + new int[3]", "[0]", "(a + array(int, 3))"),
-    ("a instanceof A", " b", "(a instanceof A)"),
-    ("a instanceof A", ".b", "(a instanceof A)"),
-    ("a instanceof int", "(b)", "(a instanceof int)"),
-    ("a instanceof A[]", "[0]", "(a instanceof A[])"),
-];
-
-// The same in annotations alone.
-pub const NOTE_ENDINGS: [Ending; 10] = [
-    ("a", " .. b", "a"),
-    ("a", " \\result", "a"),
-    ("a", " \\sum", "a"),
-    ("a", " assume b", "a"),
-    ("(a)", " \\sum", "paren(a)"),
-    ("(a)", " \\forall", "paren(a)"),
-    ("\\result", "(a)", "\\result"),
-    ("\\old(a)", "(b)", "old(a)"),
-    ("a ==> b", " c", "(a ==> b)"),
-    (
-        "(\\forall int i; 0 < i && i < n; a)",
-        " b",
-        "forall(i, 0 <, < n, a)",
-    ),
-];
-
-// The same in code alone.
-pub const CODE_ENDINGS: [Ending; 4] = [
-    ("(a)", " \\result", "paren(a)"),
-    ("(a)", " \\old(b)", "paren(a)"),
-    ("a", " \\sum", "a"),
-    ("a", " switch", "a"),
-];
-
-// Code with annotations and comments beside it.
-pub const CROSSED_CODE: [Ending; 6] = [
-    ("a", " /*@ + b */ - c", "a"),
-    ("a", " //@ .b", "a"),
-    ("(a)", " /*@ b */", "paren(a)"),
-    ("m(a)", " /*@ [0] */", "call(m, a)"),
-    ("a /* + b */ - c", "", "(a - c)"),
-    ("a // + b\n- c", "", "(a - c)"),
-];
-
-// Annotations with code between.
-pub const CROSSED_NOTES: [Ending; 4] = [
-    ("/*@ a", " */ + b", "a"),
-    ("/*@ (a)", " */ b", "paren(a)"),
-    ("/*@ a + */ //@ b", "", "(a + b)"),
-    ("//@ a\n//@ .b + c", "\n+ d", "((a . b) + c)"),
-];
+#[test]
+fn in_annotations(rt: HostRuntime) {
+    expect_texts(&rt, rt.alloc(), NOTE, NOTES, &ENDINGS);
+}

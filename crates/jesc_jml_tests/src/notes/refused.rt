@@ -1,177 +1,152 @@
 //! Texts that begin no specification from some token on.
 
-/// What stands before the token, the token that nothing goes on with, and what stands behind it. The token is empty
-/// where it is the end of the text.
-pub type Refusal = (&'static str, &'static str, &'static str);
+use crate::reading::{SPECIFICATION, expect_rows};
 
-pub const CASE_TOKENS: [Refusal; 48] = [
-    // Where a case has to begin.
-    ("", "", ""),
-    ("", ";", " requires a;"),
-    ("", "a", ";"),
-    ("", "invariant", " a;"),
-    ("", "in", " g;"),
-    ("", "\\nothing", ";"),
-    ("", "Requires", " a;"),
-    ("", "behaviors", ""),
-    ("", "static", " behavior"),
-    ("", "instance", " behavior"),
-    ("", "pure", " behavior"),
-    ("", "void", " m();"),
-    ("also", "", ""),
-    ("also ", "also", " requires a;"),
-    ("also ", ";", ""),
-    ("also ", "pure", ""),
-    ("also ", "int", " m();"),
-    ("requires a; also", "", ""),
-    ("requires a; also ", "also", " requires b;"),
-    ("requires a; also ", "void", ""),
-    ("behavior also ", "signal", " (E) a;"),
-    // Behind a visibility.
-    ("public", "", ""),
-    ("public ", "requires", " a;"),
-    ("public ", "ensures", " a;"),
-    ("private ", "assignable", " x;"),
-    ("public ", "public", " behavior"),
-    ("public ", "also", " behavior"),
-    ("public ", "instance", " behavior"),
-    ("public ", "int", " m();"),
-    ("requires a; also protected ", "requires", " b;"),
-    // Clauses of an expression.
-    ("requires", "", ""),
-    ("requires ", ";", ""),
-    ("requires a", "", ""),
-    ("requires a", ",", " b;"),
-    ("requires a ", "b", ";"),
-    ("requires a ", "ensures", " b;"),
-    ("requires ", "=", " a;"),
-    ("pre ", ")", " a;"),
-    ("requires a; requires ", ";", ""),
-    ("requires a; pre b", ")", ";"),
-    ("ensures", "", ""),
-    ("ensures ", ";", ""),
-    ("ensures a ", "also", " b;"),
-    ("post a", "]", ";"),
-    ("requires a; ensures ", ";", ""),
-    ("normal_behavior requires a; ensures", "", ""),
-    ("behavior requires ", "public", " a;"),
-    ("ensures (a", ";", ""),
-];
+/// Texts in one annotation.
+const ROWS: &str = r"
+# Where a case has to begin.
+ # token end of file at the end
+; requires a; # token ; at 1:1
+a; # token a at 1:1
+invariant a; # token invariant at 1:1
+in g; # token in at 1:1
+\nothing; # token \nothing at 1:1
+Requires a; # token Requires at 1:1
+behaviors # token behaviors at 1:1
+static behavior # token static at 1:1
+instance behavior # token instance at 1:1
+pure behavior # token pure at 1:1
+void m(); # token void at 1:1
+also # token end of file at the end
+also also requires a; # token also at 1:6
+also ; # token ; at 1:6
+also pure # token pure at 1:6
+also int m(); # token int at 1:6
+requires a; also # token end of file at the end
+requires a; also also requires b; # token also at 1:18
+requires a; also void # token void at 1:18
+behavior also signal (E) a; # token signal at 1:15
+# Behind a visibility.
+public # token end of file at the end
+public requires a; # token requires at 1:8
+public ensures a; # token ensures at 1:8
+private assignable x; # token assignable at 1:9
+public public behavior # token public at 1:8
+public also behavior # token also at 1:8
+public instance behavior # token instance at 1:8
+public int m(); # token int at 1:8
+requires a; also protected requires b; # token requires at 1:28
+# Clauses of an expression.
+requires # token end of file at the end
+requires ; # token ; at 1:10
+requires a # token end of file at the end
+requires a, b; # token , at 1:11
+requires a b; # token b at 1:12
+requires a ensures b; # token ensures at 1:12
+requires = a; # token = at 1:10
+pre ) a; # token ) at 1:5
+requires a; requires ; # token ; at 1:22
+requires a; pre b); # token ) at 1:18
+ensures # token end of file at the end
+ensures ; # token ; at 1:9
+ensures a also b; # token also at 1:11
+post a]; # token ] at 1:7
+requires a; ensures ; # token ; at 1:21
+normal_behavior requires a; ensures # token end of file at the end
+behavior requires public a; # token public at 1:19
+ensures (a; # token ; at 1:11
+# Store references.
+assignable # token end of file at the end
+assignable ; # token ; at 1:12
+assigns , x; # token , at 1:9
+modifies *; # token * at 1:10
+modifiable 1; # token 1 at 1:12
+assignable (x); # token ( at 1:12
+assignable super.f; # token super at 1:12
+assignable \result.f; # token \result at 1:12
+assignable null; # token null at 1:12
+assignable new A(); # token new at 1:12
+assignable int; # token int at 1:12
+assignable ..; # token .. at 1:12
+# Behind a whole store.
+assignable x # token end of file at the end
+assignable x y; # token y at 1:14
+assignable x + y; # token + at 1:14
+assignable x(); # token ( at 1:13
+assignable x = 1; # token = at 1:14
+assignable x, ; # token ; at 1:15
+assignable x, , y; # token , at 1:15
+assignable x, \nothing; # token \nothing at 1:15
+assignable x, \everything; # token \everything at 1:15
+assignable \nothing # token end of file at the end
+assignable \nothing, x; # token , at 1:20
+assignable \nothing.*; # token . at 1:20
+assignable \everything, x; # token , at 1:23
+assignable \everything[0]; # token [ at 1:23
+# Behind a dot.
+assignable x.; # token ; at 1:14
+assignable x.this; # token this at 1:14
+assignable x.1; # token 1 at 1:14
+assignable x.[0]; # token [ at 1:14
+assignable x.\nothing; # token \nothing at 1:14
+assignable x.*.f; # token . at 1:15
+assignable x.*[0]; # token [ at 1:15
+# In brackets.
+assignable a[]; # token ] at 1:14
+assignable a[..n]; # token .. at 1:14
+assignable a[0..]; # token ] at 1:17
+assignable a[0..n .. m]; # token .. at 1:19
+assignable a[0..n; # token ; at 1:18
+assignable a[0, 1]; # token , at 1:15
+assignable a[* 1]; # token 1 at 1:16
+assignable a[* .. n]; # token .. at 1:16
+assignable a[0.. *]; # token * at 1:18
+assignable a[0..n].f; # token . at 1:19
+assignable a[0..n][0]; # token [ at 1:19
+assignable a[*].f; # token . at 1:16
+assignable a[*][0]; # token [ at 1:16
+# Clauses of exceptions.
+signals # token end of file at the end
+signals E a; # token E at 1:9
+signals ; # token ; at 1:9
+signals () a; # token ) at 1:10
+exsures (int e) a; # token int at 1:10
+signals (\nothing); # token \nothing at 1:10
+signals (E, F) a; # token , at 1:11
+signals (E[] e) a; # token [ at 1:11
+signals (E.F e) a; # token . at 1:11
+signals (E this) a; # token this at 1:12
+signals (E e f) a; # token f at 1:14
+signals (E e # token end of file at the end
+signals (E e) ); # token ) at 1:15
+signals (E e) a # token end of file at the end
+exsures (E e) a b; # token b at 1:17
+signals (E) # token end of file at the end
+signals_only # token end of file at the end
+signals_only ; # token ; at 1:14
+signals_only (E); # token ( at 1:14
+signals_only int; # token int at 1:14
+signals_only \everything; # token \everything at 1:14
+signals_only \nothing, E; # token , at 1:22
+signals_only E, ; # token ; at 1:17
+signals_only E, \nothing; # token \nothing at 1:17
+signals_only E F; # token F at 1:16
+# Words that are left out.
+requires a; also diverges true; # left out diverges at 1:18
+private accessible x; # left out accessible at 1:9
+requires a forall b; # left out forall at 1:12
+requires \sum; # left out \sum at 1:10
+ensures a + \max; # left out \max at 1:13
+assignable \not_specified; # left out \not_specified at 1:12
+assignable \reach(x); # left out \reach at 1:12
+assignable x, \not_specified; # left out \not_specified at 1:15
+assignable x assignable_redundantly y; # left out assignable_redundantly at 1:14
+assignable a[\min]; # left out \min at 1:14
+signals old; # left out old at 1:9
+signals_only \not_specified; # left out \not_specified at 1:14
+";
 
-pub const STORE_TOKENS: [Refusal; 46] = [
-    ("assignable", "", ""),
-    ("assignable ", ";", ""),
-    ("assigns ", ",", " x;"),
-    ("modifies ", "*", ";"),
-    ("modifiable ", "1", ";"),
-    ("assignable ", "(", "x);"),
-    ("assignable ", "super", ".f;"),
-    ("assignable ", "\\result", ".f;"),
-    ("assignable ", "null", ";"),
-    ("assignable ", "new", " A();"),
-    ("assignable ", "int", ";"),
-    ("assignable ", "..", ";"),
-    // Behind a whole store.
-    ("assignable x", "", ""),
-    ("assignable x ", "y", ";"),
-    ("assignable x ", "+", " y;"),
-    ("assignable x", "(", ");"),
-    ("assignable x ", "=", " 1;"),
-    ("assignable x, ", ";", ""),
-    ("assignable x, ", ",", " y;"),
-    ("assignable x, ", "\\nothing", ";"),
-    ("assignable x, ", "\\everything", ";"),
-    ("assignable \\nothing", "", ""),
-    ("assignable \\nothing", ",", " x;"),
-    ("assignable \\nothing", ".", "*;"),
-    ("assignable \\everything", ",", " x;"),
-    ("assignable \\everything", "[", "0];"),
-    // Behind a dot.
-    ("assignable x.", ";", ""),
-    ("assignable x.", "this", ";"),
-    ("assignable x.", "1", ";"),
-    ("assignable x.", "[", "0];"),
-    ("assignable x.", "\\nothing", ";"),
-    ("assignable x.*", ".", "f;"),
-    ("assignable x.*", "[", "0];"),
-    // In brackets.
-    ("assignable a[", "]", ";"),
-    ("assignable a[", "..", "n];"),
-    ("assignable a[0..", "]", ";"),
-    ("assignable a[0..n ", "..", " m];"),
-    ("assignable a[0..n", ";", ""),
-    ("assignable a[0", ",", " 1];"),
-    ("assignable a[* ", "1", "];"),
-    ("assignable a[* ", "..", " n];"),
-    ("assignable a[0.. ", "*", "];"),
-    ("assignable a[0..n]", ".", "f;"),
-    ("assignable a[0..n]", "[", "0];"),
-    ("assignable a[*]", ".", "f;"),
-    ("assignable a[*]", "[", "0];"),
-];
-
-pub const SIGNALS_TOKENS: [Refusal; 25] = [
-    ("signals", "", ""),
-    ("signals ", "E", " a;"),
-    ("signals ", ";", ""),
-    ("signals (", ")", " a;"),
-    ("exsures (", "int", " e) a;"),
-    ("signals (", "\\nothing", ");"),
-    ("signals (E", ",", " F) a;"),
-    ("signals (E", "[", "] e) a;"),
-    ("signals (E", ".", "F e) a;"),
-    ("signals (E ", "this", ") a;"),
-    ("signals (E e ", "f", ") a;"),
-    ("signals (E e", "", ""),
-    ("signals (E e) ", ")", ";"),
-    ("signals (E e) a", "", ""),
-    ("exsures (E e) a ", "b", ";"),
-    ("signals (E)", "", ""),
-    ("signals_only", "", ""),
-    ("signals_only ", ";", ""),
-    ("signals_only ", "(", "E);"),
-    ("signals_only ", "int", ";"),
-    ("signals_only ", "\\everything", ";"),
-    ("signals_only \\nothing", ",", " E;"),
-    ("signals_only E, ", ";", ""),
-    ("signals_only E, ", "\\nothing", ";"),
-    ("signals_only E ", "F", ";"),
-];
-
-/// Whole files.
-pub const FILE_TOKENS: [Refusal; 11] = [
-    ("", "", ""),
-    ("", "requires", " a;"),
-    ("", "assume", " a;"),
-    ("/*@ requires a */ ", ";", ""),
-    ("/*@ requires */ ", "a", " /*@ ; */"),
-    ("/*@ also */ ", "requires", " a;"),
-    ("/*@ public */ ", "behavior", ""),
-    ("/*@ assignable a */ ", ".", "*;"),
-    ("/*@ assignable a[i */ ", "]", ";"),
-    ("/*@ signals */ ", "(", "E) a;"),
-    ("//@ requires a;\n//@ also\n", "int", " x;"),
-];
-
-pub const CASE_LEFT_OUT: [Refusal; 12] = [
-    ("requires a; also ", "diverges", " true;"),
-    ("private ", "accessible", " x;"),
-    ("requires a ", "forall", " b;"),
-    ("requires ", "\\sum", ";"),
-    ("ensures a + ", "\\max", ";"),
-    ("assignable ", "\\not_specified", ";"),
-    ("assignable ", "\\reach", "(x);"),
-    ("assignable x, ", "\\not_specified", ";"),
-    ("assignable x ", "assignable_redundantly", " y;"),
-    ("assignable a[", "\\min", "];"),
-    ("signals ", "old", ";"),
-    ("signals_only ", "\\not_specified", ";"),
-];
-
-/// Words that code leaves out, where they stand in code.
-pub const FILE_LEFT_OUT: [Refusal; 4] = [
-    ("", "record", " A() {}"),
-    ("/*@ also */ ", "enum", " E {}"),
-    ("/*@ public */ ", "double", " m();"),
-    ("/*@ requires */ ", "assert", " a;"),
-];
+#[test]
+fn refused(rt: HostRuntime) {
+    expect_rows(&rt, rt.alloc(), SPECIFICATION, ROWS);
+}
