@@ -15,7 +15,7 @@ use Rattle.jesc_jml_parser.specs.declared.error.SyntaxError.{SyntaxError}
 use Rattle.jesc_jml_parser.specs.declared.error.SyntaxError.TheVariants as parsing
 use Rattle.jesc_jml_parser.specs.Refusals.{place_of_next, text_of_next}
 use Rattle.jesc_jml_parser.specs.ParsedTrees.{IsTreeRefusal}
-use Rattle.jesc_java_parser.specs.Units.{SpellsUnit}
+use Rattle.jesc_ast.specs.Members.{SpellsUnit}
 use Rattle.jesc_first.specs.Outside.{Strays}
 use Rattle.jesc_engine.specs.declared.stop.Cause.{Cause}
 use Rattle.jesc_engine.specs.declared.stop.Cause.TheVariants.{CannotRead, TooLarge, TooLargeTogether, Lexical, Syntax, Outside, OutOfMemory}

@@ -14,7 +14,7 @@ use Rattle.jesc_jml_parser.specs.declared.error.SyntaxError.{SyntaxError}
 use Rattle.jesc_jml_parser.specs.declared.error.SyntaxError.TheVariants.{Token, LeftOut, Deep, OutOfMemory}
 use Rattle.jesc_jml_parser.specs.Refusals.{place_of_next, text_of_next}
 use Rattle.jesc_jml_parser.specs.ParsedTrees.{IsTreeRefusal}
-use Rattle.jesc_java_parser.specs.Units.{SpellsUnit}
+use Rattle.jesc_ast.specs.Members.{SpellsUnit}
 use Rattle.jesc_first.specs.declared.tree.Class.{Class}
 use Rattle.jesc_first.specs.Accepted.{Accepted, names_of}
 use Rattle.jesc_first.specs.Outside.{Strays}

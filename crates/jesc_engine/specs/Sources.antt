@@ -6,7 +6,7 @@ use Rattle.jesc_lexer.specs.Lexed.{IsLexed}
 use Rattle.jesc_ast.specs.Lexemes.{lexemes}
 use Rattle.jesc_ast.specs.FileTrees.{SourceUnit}
 use Rattle.jesc_ast.specs.Depth.{IsFileWithinLimits}
-use Rattle.jesc_java_parser.specs.Units.{SpellsUnit}
+use Rattle.jesc_ast.specs.Members.{SpellsUnit}
 
 -- the bytes are the content of this name, where the files tell it
 abbrev pub IsContent : Option Store → List ℕ → List ℕ → Type 0

@@ -25,7 +25,7 @@ pub fn text_of(alloc: Global, bytes: &[u8]) -> Result<Text, Stop>
     ensures copied { IfOk result (λ text. text ≡ bytes.now) }
     ensures memory { IfErr result (λ stop. stop ≡ Memory) }
 {
-    let mut text = List::new(alloc);
+    let mut text = Text::new(alloc);
     text.append(bytes)?;
     Ok(text)
 }
