@@ -1,0 +1,21 @@
+-- What the trees that headings are read from are: those that the tokens of files spell.
+use Rattle.std.specs.Prelude.{◌≤◌, List, length, map, sum}
+use Rattle.std.specs.List.{AllZip}
+use Rattle.jesc_lexer.specs.declared.token.Tokens.{Tokens}
+use Rattle.jesc_lexer.specs.Spans.{AreSpans}
+use Rattle.jesc_ast.specs.declared.class.File.{File}
+use Rattle.jesc_ast.specs.Members.{SpellsFile}
+
+-- tokens of a text, as the parsers take them, that spell the file
+pub record IsSpelled (tokens : Tokens) (file : File) : Type 0 where
+  pub spans : AreSpans (length tokens.text) 0 tokens.list
+  pub short : length tokens.text ≤ 1048576
+  pub spelled : SpellsFile tokens file
+
+-- each file is spelled by its tokens, which are not too many together
+pub record AreSpelled (all : List Tokens) (files : List File) : Type 0 where
+  pub each : AllZip IsSpelled all files
+  pub few : sum (map (λ tokens. length tokens.list) all) ≤ 8388608
+
+abbrev pub AreGiven : List File → Type 0
+AreGiven files = (all : List Tokens) × AreSpelled all files
