@@ -1,0 +1,6 @@
+pub mod Whole
+pub mod Rounding
+pub mod Exact
+pub mod Divisors
+pub mod Normalized
+pub mod Turned

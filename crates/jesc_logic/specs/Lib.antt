@@ -1,0 +1,10 @@
+pub mod Terms
+pub mod Tables
+pub mod TermCodes
+pub mod Claims
+pub mod Structures
+pub mod Substitution
+pub mod Truth
+pub mod Making
+pub mod Chains
+pub mod laws
