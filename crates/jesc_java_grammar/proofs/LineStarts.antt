@@ -1,32 +1,9 @@
--- The offsets at which lines begin rise, and are found byte by byte.
-use Rattle.std.proofs.Common.{◌≡◌, ◌≢◌, ℕ, zero, suc, ◌+◌, ◌≤◌, ◌<◌, true, false, List, [], ◌∷◌, ◌++◌, length, drop, get_or, slice_index, refl, sym, ap, ◌∙◌, subst, append_assoc, arith}
-use Rattle.std.specs.Prelude.{◌==◌, if◌then◌else◌}
-use Rattle.std.specs.List.Sorted.{IsStrictlyIncreasing}
+-- The offsets at which lines begin are found byte by byte.
+use Rattle.std.proofs.Common.{◌≡◌, ◌≢◌, ℕ, ◌+◌, ◌≤◌, ◌<◌, true, false, List, [], ◌∷◌, ◌++◌, length, drop, get_or, refl, sym, ap, ◌∙◌, append_assoc, arith}
+use Rattle.std.specs.Prelude.{◌==◌}
 use Rattle.std.proofs.lemmas.List.{drop_more, drop_all, append-nil}
 use Rattle.std.proofs.lemmas.Bool.Decides.{nat_tests}
-use Rattle.jesc_ast.specs.Lines.{IsLines, after_line_feeds, lines_of}
-
--- ---- they rise
-
-one_before : (x y : ℕ) (ys : List ℕ) → x < y → IsStrictlyIncreasing (y ∷ ys) → (k : ℕ) → k + 1 < length (x ∷ y ∷ ys)
-    → slice_index (x ∷ y ∷ ys) k < slice_index (x ∷ y ∷ ys) (k + 1)
-one_before x y ys lt h zero inside = lt
-one_before x y ys lt h (suc k) inside =
-    let next : suc (k + 1) ≡ suc k + 1 = omega arith in
-    subst (λ (n : ℕ). slice_index (y ∷ ys) k < slice_index (x ∷ y ∷ ys) n) next (h k (omega arith))
-
-behind_rise : (text : List ℕ) (first offset : ℕ) → first ≤ offset → IsStrictlyIncreasing (first ∷ after_line_feeds text offset)
-behind_rise [] first offset le = λ k inside. absurd (omega arith)
-behind_rise (byte ∷ text) first offset le =
-    elim (byte == 10) as (λ b. IsStrictlyIncreasing (first ∷ (if b then (offset + 1) ∷ after_line_feeds text (offset + 1) else after_line_feeds text (offset + 1)))) [
-      | true ↦ one_before first (offset + 1) (after_line_feeds text (offset + 1)) (omega arith) (behind_rise text (offset + 1) (offset + 1) (omega arith))
-      | false ↦ behind_rise text first (offset + 1) (omega arith)
-    ]
-
-pub lines_rise : (text : List ℕ) → IsLines (lines_of text)
-lines_rise text = record { first = refl; rise = behind_rise text 0 0 (omega arith) }
-
--- ---- they are found
+use Rattle.jesc_ast.specs.Lines.{after_line_feeds, lines_of}
 
 -- those found in so many bytes, and those behind them, are all
 abbrev pub Finds : List ℕ → ℕ → List ℕ → Type 0

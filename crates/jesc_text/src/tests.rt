@@ -140,3 +140,15 @@ fn a_list_grows_and_is_cut(rt: HostRuntime) -> Result<(), Fail> {
     assert_eq!(rt; list.as_slice(), [0, 1].as_slice());
     Ok(())
 }
+
+#[test]
+fn a_text_grows_and_is_cut(rt: HostRuntime) -> Result<(), Fail> {
+    let mut text = Text::new(rt.alloc());
+    text.append(b"sixteen bytes ar")?;
+    text.push(b'e')?;
+    assert_eq!(rt; text.len(), 17);
+    text.cut(2);
+    text.push(b'!')?;
+    assert_eq!(rt; text.as_slice(), b"si!".as_slice());
+    Ok(())
+}

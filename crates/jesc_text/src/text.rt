@@ -1,4 +1,4 @@
-ghost use Rattle.std.specs.Prelude.{◌≡◌, [], ◌++◌, length, OnOk, OnErr};
+ghost use Rattle.std.specs.Prelude.{◌≡◌, ◌≤◌, [], ◌∷◌, ◌++◌, length, take, OnOk, OnErr};
 
 use crate::list::OutOfMemory;
 use smallvec::SmallVec;
@@ -43,6 +43,25 @@ impl Text {
         ensures { result ≡ length self.now }
     {
         self.bytes.len()
+    }
+
+    /// Appends a byte. Answers `OutOfMemory`, and leaves the text as it was, where there is no room for it.
+    pub fn push(&mut self, byte: u8) -> Result<(), OutOfMemory>
+        ensures ok { OnOk result (self.new ≡ self.old ++ byte ∷ []) }
+        ensures err { OnErr result (self.new ≡ self.old) }
+    {
+        match self.bytes.push(byte) {
+            Ok(_) => Ok(()),
+            Err(_) => Err(OutOfMemory),
+        }
+    }
+
+    /// Keeps the first `kept` bytes, of which there are at least so many. Takes no memory.
+    pub fn cut(&mut self, kept: u32)
+        requires { kept ≤ length self.old }
+        ensures { self.new ≡ take kept self.old }
+    {
+        self.bytes.truncate(kept as usize);
     }
 
     /// Appends all of these bytes. Answers `OutOfMemory`, and leaves the text as it was, where there is no room for them.

@@ -1,6 +1,6 @@
 use Rattle.std.proofs.Common.{sym, subst}
 use Rattle.jesc_ast.specs.Lines.{IsLines}
-use Rattle.jesc_java_grammar.proofs.LineStarts.{lines_rise}
+use Rattle.jesc_ast.specs.laws.Places.{lines_rise}
 use Rattle.jesc_java_parser.proofs.parse.with_lines.Goals as goal
 
 pub invariant_of-result : goal.invariant_of-result
