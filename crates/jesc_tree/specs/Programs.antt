@@ -1,7 +1,8 @@
 -- When the tables of classes, fields and methods make a program, and when it is lawful.
-use Rattle.std.specs.Prelude.{◌≡◌, ℕ, ◌<◌, true, false, None, List, [], ◌∷◌, ◌++◌, ◌⊎◌, length, map, take, codes}
+use Rattle.std.specs.Prelude.{◌≡◌, ℕ, ◌<◌, true, false, Option, None, List, [], ◌∷◌, ◌++◌, ◌⊎◌, length, map, take, codes}
 use Rattle.std.specs.List.{All}
 use Rattle.std.specs.Fmt.{decimal}
+use Rattle.jesc_tree.specs.declared.ids.ClassId.{ClassId}
 use Rattle.jesc_tree.specs.declared.class.Class.{Class}
 use Rattle.jesc_tree.specs.declared.class.Field.{Field}
 use Rattle.jesc_tree.specs.declared.class.Method.{Method}
@@ -27,6 +28,21 @@ pub record IsBare (c : Class) : Type 0 where
   pub fields : c.fields ≡ []
   pub invariants : c.invariants ≡ []
   pub represents : c.represents ≡ []
+
+-- the class with that name and superclass, and nothing else
+abbrev pub bare_class : List ℕ → Option ClassId → Class
+bare_class name parent = record {
+  name = name;
+  place = record { file = 0; line = 0; col = 0 };
+  parent = parent;
+  interfaces = [];
+  is_interface = false;
+  is_abstract = false;
+  fields = [];
+  methods = [];
+  invariants = [];
+  represents = [];
+}
 
 -- what is true of the tables of each program
 pub record IsProgram (classes : List Class) (fields : List Field) (methods : List Method) : Type 0 where

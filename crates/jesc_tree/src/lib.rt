@@ -3,11 +3,13 @@
 //! Begin with `class`, which has the tables of a program's classes, fields and methods, and go on to `program`, which
 //! holds them together with what is true of them. `ids` and `ty` have what stands in place of names, `expr`, `stmt` and
 //! `spec` the trees of expressions, statements and specifications, with the operators in `ops`. `kind` has the kinds of
-//! check. `copy` makes equal copies, and `subtype` tells which type lies below which.
+//! check. `base_classes` makes the classes that every program has, `copy` makes equal copies, and `subtype` tells which
+//! type lies below which.
 //!
 //! In `specs/`, `Programs` says when tables make a program and `Subtypes` what a subtype is.
 #![tactic(auto)]
 
+mod base_classes;
 mod class;
 mod copy;
 mod expr;
@@ -20,6 +22,7 @@ mod stmt;
 mod subtype;
 mod ty;
 
+pub use base_classes::predefined;
 pub use class::{Class, Field, Init, Method, Param};
 pub use expr::{
     CallHow, TBinary, TCall, TChoose, TExpr, TField, TIndex, TInstance, TNew, TNode, TQuant, TUnary,
@@ -34,6 +37,3 @@ pub use stmt::{
     TWhile,
 };
 pub use ty::{Elem, Ty};
-
-#[cfg(test)]
-mod tests;

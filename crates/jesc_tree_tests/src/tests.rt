@@ -1,10 +1,10 @@
 //! Copies of trees whose parts can be told apart.
 
-use crate::{
+use jesc_text::{Boxed, List, OutOfMemory, Place};
+use jesc_tree::{
     BinOp, ClassId, Elem, FieldId, LocalId, TBinary, TExpr, TField, TFrame, TNode, TStore,
     TStoreNode, Ty,
 };
-use jesc_text::{Boxed, List, OutOfMemory, Place};
 use std::alloc::Global;
 use std::test::Fail;
 
