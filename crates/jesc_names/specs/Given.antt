@@ -1,10 +1,13 @@
 -- What the trees that headings are read from are: those that the tokens of files spell.
 use Rattle.std.specs.Prelude.{◌≤◌, List, length, map, sum}
-use Rattle.std.specs.List.{AllZip}
+use Rattle.std.specs.List.{All, AllZip}
 use Rattle.jesc_lexer.specs.declared.token.Tokens.{Tokens}
 use Rattle.jesc_lexer.specs.Spans.{AreSpans}
 use Rattle.jesc_ast.specs.declared.class.File.{File}
+use Rattle.jesc_ast.specs.declared.word.Word.{Word}
+use Rattle.jesc_ast.specs.Lines.{IsLines}
 use Rattle.jesc_ast.specs.Members.{SpellsFile}
+use Rattle.jesc_names.specs.Headings.{Source}
 
 -- tokens of a text, as the parsers take them, that spell the file
 pub record IsSpelled (tokens : Tokens) (file : File) : Type 0 where
@@ -19,3 +22,15 @@ pub record AreSpelled (all : List Tokens) (files : List File) : Type 0 where
 
 abbrev pub AreGiven : List File → Type 0
 AreGiven files = (all : List Tokens) × AreSpelled all files
+
+-- a word whose line and column are numbers that a place can hold
+abbrev pub IsPlaced : Word → Type 0
+IsPlaced w = w.span.from ≤ 1048576
+
+-- the words of a heading stand in a text that is short enough
+pub record ArePlaced (s : Source) : Type 0 where
+  pub lines : IsLines s.lines
+  pub modifiers : All IsPlaced s.tree.modifiers
+  pub name : IsPlaced s.tree.name
+  pub extends : All IsPlaced s.tree.extends
+  pub implements : All IsPlaced s.tree.implements

@@ -3,12 +3,16 @@ use Rattle.std.proofs.Common.{◌≡◌, ◌↔◌, ℕ, zero, suc, ◌+◌, ◌
 use Rattle.std.proofs.Math.ListN.{get_or-append}
 use Rattle.std.proofs.Math.Seq.{get_or-append_seam}
 use Rattle.std.proofs.lemmas.Map.Steps.{length-le_from_distinct_below}
+use Rattle.std.proofs.Math.Logic.{∥∥₁_elim}
+use Rattle.std.proofs.lemmas.List.Elements.{All-push}
+use Rattle.std.proofs.lemmas.Map.Keys.{IsDistinct-prop}
+use Rattle.std.specs.Coded.{le_prop}
 use Rattle.std.specs.List.{All, AllByRecursion, Contains, IsDistinct, list_any}
 use Rattle.jesc_names.specs.Order.{Graph, supers, Above, direct, further, IsAcyclic, IsReady, IsOrder, ended, next, IsWhole, IsWithin}
 
 -- ---- lists of numbers
 
-same : (q x : ℕ) → (q ≡ x) ⊎ (q ≡ x → ⊥)
+pub same : (q x : ℕ) → (q ≡ x) ⊎ (q ≡ x → ⊥)
 same q x = by (nat_eq q x) refl
   where
     by : (b : Bool) → nat_eq q x ≡ b → (q ≡ x) ⊎ (q ≡ x → ⊥)
@@ -18,13 +22,13 @@ same q x = by (nat_eq q x) refl
 at_all : {X : Type 0} (P : X → Type 0) (xs : List X) (x : X) → All P xs → Contains xs x → P x
 at_all P xs x all c = subst P c.2 (all c.0 x c.1)
 
-later : (x : ℕ) (xs : List ℕ) (q : ℕ) → Contains xs q → Contains (x ∷ xs) q
+pub later : (x : ℕ) (xs : List ℕ) (q : ℕ) → Contains xs q → Contains (x ∷ xs) q
 later x xs q c = (suc c.0, omega (arith, c.1), c.2)
 
-here : (x : ℕ) (xs : List ℕ) → Contains (x ∷ xs) x
+pub here : (x : ℕ) (xs : List ℕ) → Contains (x ∷ xs) x
 here x xs = (0, omega arith, refl)
 
-first_or_later : (x : ℕ) (xs : List ℕ) (q : ℕ) → Contains (x ∷ xs) q → (x ≡ q) ⊎ Contains xs q
+pub first_or_later : (x : ℕ) (xs : List ℕ) (q : ℕ) → Contains (x ∷ xs) q → (x ≡ q) ⊎ Contains xs q
 first_or_later x xs q (zero, l, e) = inl e
 first_or_later x xs q (suc i, l, e) = inr (i, omega (arith, l), e)
 
@@ -52,7 +56,7 @@ all_or_missing done (x ∷ xs) = elim (is_in done x) [
     cons c all zero d l = c
     cons c all (suc k) d l = all k d (omega (arith, l))
 
-any_default : (xs : List ℕ) (k d e : ℕ) → k < length xs → get_or xs k d ≡ get_or xs k e
+pub any_default : (xs : List ℕ) (k d e : ℕ) → k < length xs → get_or xs k d ≡ get_or xs k e
 any_default [] k d e l = absurd (omega (arith, l))
 any_default (x ∷ xs) zero d e l = refl
 any_default (x ∷ xs) (suc k) d e l = any_default xs k d e (omega (arith, l))
@@ -74,7 +78,7 @@ on_above : (graph : Graph) (a b c : ℕ) → Above graph a b → Contains (super
 on_above graph a b c (direct d e h) m = further d e c h (direct e c m)
 on_above graph a b c (further d e f h r) m = further d e c h (on_above graph e f c r m)
 
-nothing : (q : ℕ) → Contains [] q → ⊥
+pub nothing : (q : ℕ) → Contains [] q → ⊥
 nothing q c = absurd (omega (arith, c.1))
 
 -- ---- where no class is its own supertype, every class gets an id
@@ -188,6 +192,56 @@ is_class graph a b r = by (nat_lt a (length graph)) refl (first r)
     by : (t : Bool) → nat_lt a (length graph) ≡ t → (s : ℕ) × Contains (supers graph a) s → a < length graph
     by true e m = ltb-true a (length graph) e
     by false e m = absurd (nothing m.0 (subst (λ xs. Contains xs m.0) (beyond graph a (ltb-false a (length graph) e)) m.1))
+
+-- ---- no class gets two ids
+
+-- the entries are different classes
+pub record AreClasses (graph : Graph) (order : List ℕ) : Type 0 where
+  pub distinct : IsDistinct nat_eq order
+  pub below : All (λ class. class < length graph) order
+
+unequal : (x y : ℕ) → (x ≡ y → ⊥) → nat_eq x y ≡ false
+unequal x y n = by (nat_eq x y) refl
+  where
+    by : (b : Bool) → nat_eq x y ≡ b → nat_eq x y ≡ false
+    by true e = absurd (n (eqb-true x y e))
+    by false e = e
+
+apart-push : (x : ℕ) (xs : List ℕ) (y : ℕ) → AllByRecursion (λ z. nat_eq x z ≡ false) xs → (x ≡ y → ⊥) → AllByRecursion (λ z. nat_eq x z ≡ false) (xs ++ y ∷ [])
+apart-push x [] y a n = (unequal x y n, tt)
+apart-push x (z ∷ zs) y a n = (a.0, apart-push x zs y a.1 n)
+
+distinct-push : (xs : List ℕ) (y : ℕ) → IsDistinct nat_eq xs → (Contains xs y → ⊥) → IsDistinct nat_eq (xs ++ y ∷ [])
+unfolding IsDistinct
+distinct-push [] y d n = (tt, tt)
+distinct-push (x ∷ xs) y d n = (apart-push x xs y d.0 (λ e. n (0, omega arith, e)), distinct-push xs y d.1 (λ c. n (later x xs y c)))
+
+pub one_class_more : (graph : Graph) (done : List ℕ) (class : ℕ) → IsReady graph done class → AreClasses graph done → AreClasses graph (done ++ class ∷ [])
+one_class_more graph done class ready are = record {
+  distinct = distinct-push done class are.distinct ready.waits;
+  below = All-push (λ x. x < length graph) done class are.below ready.given;
+}
+
+pub no_classes : (graph : Graph) → AreClasses graph []
+unfolding IsDistinct
+no_classes graph = record { distinct = tt; below = λ k d l. absurd (omega (arith, l)) }
+
+classes_from : (graph : Graph) (done order : List ℕ) → IsOrder graph done order → AreClasses graph done → AreClasses graph order
+classes_from graph done order (ended d stops) are = are
+classes_from graph done order (next d o class n rest) are = classes_from graph (d ++ class ∷ []) o rest (one_class_more graph d class n.ready are)
+
+pub are_classes : (graph : Graph) (order : List ℕ) → IsOrder graph [] order → AreClasses graph order
+are_classes graph order is_order = classes_from graph [] order is_order (no_classes graph)
+
+-- the same of what the contract of the code says
+pub distinct_classes : (graph : Graph) (order : List ℕ) → ∥ IsOrder graph [] order ∥₁ → IsDistinct nat_eq order
+distinct_classes graph order is_order = ∥∥₁_elim is_order (IsDistinct-prop nat_eq order) (λ o. (are_classes graph order o).distinct)
+
+pub classes_below : (graph : Graph) (order : List ℕ) → ∥ IsOrder graph [] order ∥₁ → All (λ class. class < length graph) order
+classes_below graph order is_order k d l = ∥∥₁_elim is_order le_prop (λ o. (are_classes graph order o).below k d l)
+
+pub few_classes : (graph : Graph) (order : List ℕ) → AreClasses graph order → length order ≤ length graph
+few_classes graph order are = length-le_from_distinct_below order (length graph) are.distinct (λ q h. at_all (λ x. x < length graph) order q are.below (found order q h))
 
 -- ---- both
 

@@ -1,0 +1,33 @@
+//! Errors that name a broken rule.
+
+ghost use Rattle.std.specs.Prelude.{◌≡◌, ◌≤◌, IfOk};
+ghost use Rattle.jesc_ast.specs.Lines.{IsLines, place_at as place_by};
+ghost use Rattle.jesc_names.specs.declared.rule.RuleError.TheVariants.{Refused};
+
+use crate::place::place_at;
+use crate::rule::{Rule, RuleError};
+use jesc_ast::Word;
+use jesc_text::{OutOfMemory, Text};
+use std::alloc::Global;
+
+/// The error that a rule is broken at this word of a file whose lines begin at these offsets.
+///
+/// Answers `OutOfMemory` where there is no room for a copy of the word's text.
+pub fn refuse(
+    alloc: Global,
+    number: Rule,
+    lines: &[u32],
+    word: &Word,
+) -> Result<RuleError, OutOfMemory>
+    requires lines { IsLines lines.now }
+    requires within { word.now.span.from ≤ 1048576 }
+    ensures { IfOk result (λ e. e ≡ Refused number (place_by lines.now word.now.span) word.now.text) }
+{
+    let mut text = Text::new(alloc);
+    text.append(word.text.as_slice())?;
+    Ok(RuleError::Refused {
+        number,
+        place: place_at(lines, word.span),
+        word: text,
+    })
+}
