@@ -1,0 +1,1 @@
+class Account extends Thing implements Named { }

@@ -1,0 +1,2 @@
+interface Named { }
+class Thing { }
