@@ -8,7 +8,7 @@ use Rattle.jesc_linear.specs.Forms.{Form, value}
 use Rattle.jesc_clauses.specs.declared.normal.Normal.{Normal}
 use Rattle.jesc_clauses.specs.declared.normal.Normal.TheVariants.{Constant, Holds, Fails}
 use Rattle.jesc_clauses.specs.Normals.{scaled, IsNormalOf, is_so}
-use Rattle.jesc_clauses.proofs.Whole.{times_over_sum, sum_under_times, times_times, keeps_order}
+use Rattle.jesc_linear.proofs.Whole.{times_over_sum, sum_under_times, times_times, keeps_order}
 use Rattle.jesc_clauses.proofs.Rounding.{quotient_is_greatest, quotient_multiple}
 
 pub value_scaled : (v : ℕ → ℤ) (k : ℤ) (f : Form) → value v (scaled k f) ≡ k *ℤ value v f

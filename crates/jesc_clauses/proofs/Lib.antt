@@ -1,4 +1,3 @@
-pub mod Whole
 pub mod Rounding
 pub mod Exact
 pub mod Divisors

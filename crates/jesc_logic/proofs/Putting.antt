@@ -4,7 +4,7 @@ use Rattle.std.specs.Prelude.{All}
 use Rattle.std.proofs.lemmas.Bool.Decides.{nat_tests}
 use Rattle.std.proofs.lemmas.Option.{slice_get_past, slice_get-map, slice_get_within, get_or_from_slice_get}
 use Rattle.std.specs.Option.{option_map}
-use Rattle.std.proofs.lemmas.List.Elements.{All-head, All-tail, All-get_or}
+use Rattle.std.proofs.lemmas.List.Elements.{All-cons, All-head, All-tail, All-get_or}
 use Rattle.jesc_logic.specs.declared.terms.TermId.{TermId}
 use Rattle.jesc_logic.specs.declared.terms.Node.{Node}
 use Rattle.jesc_logic.specs.declared.terms.Node.TheVariants.{App}
@@ -102,12 +102,8 @@ variable_put terms args id symbol p all h =
     by false q = subst (λ (t : Bool). StandsFor terms (if t then unwrap_or (slice_get args (symbol - 32)) id else id) (if t then unwrap_or (slice_get (terms_at terms args) (symbol - 32)) (constant symbol) else constant symbol)) (sym q) h
     by true q = subst (λ (t : Bool). StandsFor terms (if t then unwrap_or (slice_get args (symbol - 32)) id else id) (if t then unwrap_or (slice_get (terms_at terms args) (symbol - 32)) (constant symbol) else constant symbol)) (sym q) shown
 
--- the places of the new node, where those of the old one are known
-pub one_place : (k m n a b c a' : ℕ) → ArePlaces k n a b c → n ≡ 1 → a' < m → (a' < m) × (b ≡ 0) × (c ≡ 0)
-one_place k m n a b c a' h e p = let q : ArePlaces k 1 a b c = subst (λ (i : ℕ). ArePlaces k i a b c) e h in (p, q.1, q.2)
-
-pub two_places : (k m n a b c a' b' : ℕ) → ArePlaces k n a b c → n ≡ 2 → a' < m → b' < m → (a' < m) × (b' < m) × (c ≡ 0)
-two_places k m n a b c a' b' h e p q = let r : ArePlaces k 2 a b c = subst (λ (i : ℕ). ArePlaces k i a b c) e h in (p, q, r.2)
+pub one_in : (terms : List Term) (id : TermId) → IsIn terms id → All (IsIn terms) (id ∷ [])
+one_in terms id p = All-cons (IsIn terms) id [] p (λ k d l. absurd (omega (arith, l)))
 
 pub is_three : (k n a b c : ℕ) → ArePlaces k n a b c → (n ≡ 0 → ⊥) → (n ≡ 1 → ⊥) → (n ≡ 2 → ⊥) → n ≡ 3
 is_three k zero a b c h p q r = absurd (p refl)
@@ -115,9 +111,6 @@ is_three k (suc zero) a b c h p q r = absurd (q refl)
 is_three k (suc (suc zero)) a b c h p q r = absurd (r refl)
 is_three k (suc (suc (suc zero))) a b c h p q r = refl
 is_three k (suc (suc (suc (suc n)))) a b c h p q r = absurd h
-
-pub three_places : (m n a b c : ℕ) → n ≡ 3 → a < m → b < m → c < m → ArePlaces m n a b c
-three_places m n a b c e p q r = let h : ArePlaces m 3 a b c = (p, q, r) in subst (λ (i : ℕ). ArePlaces m i a b c) (sym e) h
 
 -- a node's term, where its arity is known
 pub at_arity : (terms : List Term) (id : TermId) (symbol n m : ℕ) (a b c : TermId) → n ≡ m → StandsFor terms id (node_term terms (App symbol n a b c)) → StandsFor terms id (node_term terms (App symbol m a b c))

@@ -93,59 +93,24 @@ impl Terms {
             Node::Num(_) => Ok(id),
             Node::App {
                 symbol,
-                arity: 0,
-                ..
-            } => Ok(variable(symbol, args, id)),
-            Node::App {
-                symbol,
-                arity: 1,
-                a,
-                b,
-                c,
-            } => {
-                let a = self.term_with(a, args)?;
-                self.make(Node::App {
-                    symbol,
-                    arity: 1,
-                    a,
-                    b,
-                    c,
-                })
-            }
-            Node::App {
-                symbol,
-                arity: 2,
-                a,
-                b,
-                c,
-            } => {
-                let a = self.term_with(a, args)?;
-                let b = self.term_with(b, args)?;
-                self.make(Node::App {
-                    symbol,
-                    arity: 2,
-                    a,
-                    b,
-                    c,
-                })
-            }
-            Node::App {
-                symbol,
                 arity,
                 a,
                 b,
                 c,
             } => {
+                if arity == 0 {
+                    return Ok(variable(symbol, args, id));
+                }
                 let a = self.term_with(a, args)?;
+                if arity == 1 {
+                    return self.app(symbol, &[a]);
+                }
                 let b = self.term_with(b, args)?;
+                if arity == 2 {
+                    return self.app(symbol, &[a, b]);
+                }
                 let c = self.term_with(c, args)?;
-                self.make(Node::App {
-                    symbol,
-                    arity,
-                    a,
-                    b,
-                    c,
-                })
+                self.app(symbol, &[a, b, c])
             }
         }
     }

@@ -154,7 +154,7 @@ impl Terms {
     }
 
     /// The number of a node's term, where the node's parts are there.
-    pub(crate) fn make(&mut self, node: Node) -> Result<TermId, TermError>
+    fn make(&mut self, node: Node) -> Result<TermId, TermError>
         requires { IsBelow (length self.old) node }
         ensures keeps { Keeps self.old self.new }
         ensures apart { AreApart self.new }
