@@ -142,39 +142,22 @@ impl<
         self.signals_behind(cursor, head)
     }
 
-    #[tactic(auto, unfolding(crate::specs::ClauseReading::no_classes))]
-    fn no_classes(&self, cursor: &mut Cursor<'_>) -> Result<SpecClause, ParseError>
-        ensures reads { Reads promise_view (note_rule rules.no_classes self.now.room self.now.quantifiers (seen cursor.old)) result (seen cursor.new) }
-        ensures kept { IsKept cursor.old cursor.new }
-    {
-        let n = cursor.expect_word(NoteWord::Nothing)?;
-        Ok(SpecClause::SignalsOnly {
-            first: n.span,
-            classes: List::new(self.alloc),
-        })
-    }
-
-    #[tactic(auto, unfolding(crate::specs::ClauseReading::some_classes))]
-    fn some_classes(&self, cursor: &mut Cursor<'_>) -> Result<SpecClause, ParseError>
-        requires side { cursor.old.note ≡ true }
-        ensures reads { Reads promise_view (note_rule rules.some_classes self.now.room self.now.quantifiers (seen cursor.old)) result (seen cursor.new) }
-        ensures kept { IsKept cursor.old cursor.new }
-    {
-        let words = self.names(cursor)?;
-        Ok(make_classes(words))
-    }
-
-    #[tactic(auto, unfolding(crate::specs::ClauseReading::signaled_classes))]
+    /// The classes that a `signals_only` clause names, or none.
+    #[tactic(auto, unfolding(crate::specs::ClauseReading::signaled_classes, crate::specs::ClauseReading::no_classes, crate::specs::ClauseReading::some_classes))]
     fn signaled_classes(&self, cursor: &mut Cursor<'_>) -> Result<SpecClause, ParseError>
         requires side { cursor.old.note ≡ true }
         ensures reads { Reads promise_view (note_rule rules.signaled_classes self.now.room self.now.quantifiers (seen cursor.old)) result (seen cursor.new) }
         ensures kept { IsKept cursor.old cursor.new }
     {
         if cursor.is_at_word(NoteWord::Nothing) {
-            self.no_classes(cursor)
-        } else {
-            self.some_classes(cursor)
+            let n = cursor.expect_word(NoteWord::Nothing)?;
+            return Ok(SpecClause::SignalsOnly {
+                first: n.span,
+                classes: List::new(self.alloc),
+            });
         }
+        let words = self.names(cursor)?;
+        Ok(make_classes(words))
     }
 
     #[tactic(auto, unfolding(crate::specs::ClauseReading::signals_only_clause))]

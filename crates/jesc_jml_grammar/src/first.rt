@@ -112,18 +112,15 @@ impl<
         ensures bounded { IfOk result (λ f. f.depth ≤ self.now.room + 1) }
     {
         let x = cursor.take_one()?;
-        match mark {
-            Mark::Number => Ok(leaf(
-                self.alloc,
-                x.span,
-                ExprNode::Number(text_of(self.alloc, x.text)?),
-            )?),
-            Mark::True => Ok(leaf(self.alloc, x.span, ExprNode::Truth(true))?),
-            Mark::False => Ok(leaf(self.alloc, x.span, ExprNode::Truth(false))?),
-            Mark::Null => Ok(leaf(self.alloc, x.span, ExprNode::Null)?),
-            Mark::This => Ok(leaf(self.alloc, x.span, ExprNode::This)?),
-            _ => Ok(leaf(self.alloc, x.span, ExprNode::Result)?),
-        }
+        let node = match mark {
+            Mark::Number => ExprNode::Number(text_of(self.alloc, x.text)?),
+            Mark::True => ExprNode::Truth(true),
+            Mark::False => ExprNode::Truth(false),
+            Mark::Null => ExprNode::Null,
+            Mark::This => ExprNode::This,
+            _ => ExprNode::Result,
+        };
+        Ok(leaf(self.alloc, x.span, node)?)
     }
 
     /// What an expression follows, where there is room for it.

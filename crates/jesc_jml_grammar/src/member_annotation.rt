@@ -77,20 +77,8 @@ impl<
         Ok(make_represents(self.alloc, words, x, sign, e, last)?)
     }
 
-    #[tactic(auto, unfolding(crate::specs::ClauseReading::some_value))]
-    fn some_value(&self, cursor: &mut Cursor<'_>) -> Result<Value, ParseError>
-        requires nests { Nests self.now.room (F.pre self.now.expr) (F.post self.now.expr) }
-        requires side { cursor.old.note ≡ true }
-        ensures reads { Reads value_seen (note_rule rules.some_value self.now.room self.now.quantifiers (seen cursor.old)) result (seen cursor.new) }
-        ensures kept { IsKept cursor.old cursor.new }
-    {
-        let equals = cursor.expect_word(NoteWord::Equals)?;
-        let e = self.expression(cursor)?;
-        Ok(make_value(equals, e))
-    }
-
     /// An initial value that may be missing.
-    #[tactic(auto, unfolding(crate::specs::ClauseReading::value))]
+    #[tactic(auto, unfolding(crate::specs::ClauseReading::value, crate::specs::ClauseReading::some_value))]
     fn value(&self, cursor: &mut Cursor<'_>) -> Result<Value, ParseError>
         requires nests { Nests self.now.room (F.pre self.now.expr) (F.post self.now.expr) }
         requires side { cursor.old.note ≡ true }
@@ -98,7 +86,9 @@ impl<
         ensures kept { IsKept cursor.old cursor.new }
     {
         if cursor.is_at_word(NoteWord::Equals) {
-            return self.some_value(cursor);
+            let equals = cursor.expect_word(NoteWord::Equals)?;
+            let e = self.expression(cursor)?;
+            return Ok(make_value(equals, e));
         }
         Ok(Value {
             equals: None,
@@ -107,24 +97,8 @@ impl<
         })
     }
 
-    #[tactic(auto, unfolding(crate::specs::ClauseReading::some_groups))]
-    fn some_groups(&self, cursor: &mut Cursor<'_>) -> Result<Ended<List<Word>>, ParseError>
-        requires side { cursor.old.note ≡ true }
-        ensures reads { Reads (ended (λ words. words)) (note_rule rules.some_groups self.now.room self.now.quantifiers (seen cursor.old)) result (seen cursor.new) }
-        ensures kept { IsKept cursor.old cursor.new }
-    {
-        cursor.expect_word(NoteWord::In)?;
-        let words = self.names(cursor)?;
-        let last = cursor.expect_note(Mark::Semicolon)?;
-        Ok(Ended {
-            tree: words,
-            depth: 0,
-            last: last.span,
-        })
-    }
-
     /// The data groups of a field, which may be missing, behind the field's semicolon.
-    #[tactic(auto, unfolding(crate::specs::ClauseReading::groups))]
+    #[tactic(auto, unfolding(crate::specs::ClauseReading::groups, crate::specs::ClauseReading::some_groups))]
     pub fn groups(
         &self,
         cursor: &mut Cursor<'_>,
@@ -134,11 +108,18 @@ impl<
         ensures reads { Reads (ended (λ words. words)) (note_rule rules.groups self.now.room self.now.quantifiers (lexeme last.entry) (seen cursor.old)) result (seen cursor.new) }
         ensures kept { IsKept cursor.old cursor.new }
     {
-        if cursor.is_at_word(NoteWord::In) {
-            return self.some_groups(cursor);
+        if !cursor.is_at_word(NoteWord::In) {
+            return Ok(Ended {
+                tree: List::new(self.alloc),
+                depth: 0,
+                last: last.span,
+            });
         }
+        cursor.expect_word(NoteWord::In)?;
+        let words = self.names(cursor)?;
+        let last = cursor.expect_note(Mark::Semicolon)?;
         Ok(Ended {
-            tree: List::new(self.alloc),
+            tree: words,
             depth: 0,
             last: last.span,
         })

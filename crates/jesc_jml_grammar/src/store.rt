@@ -37,32 +37,8 @@ impl<
         self.inner(cursor, self.quantifiers, 1, Start::AtFirst)
     }
 
-    #[tactic(auto, unfolding(crate::specs::ClauseReading::path_name))]
-    fn path_name<'a>(&self, cursor: &mut Cursor<'a>) -> Result<Path<'a>, ParseError>
-        requires side { cursor.old.note ≡ true }
-        requires some { 0 < self.now.room }
-        ensures reads { Reads path_of (note_rule rules.path_name self.now.room self.now.quantifiers (seen cursor.old)) result (seen cursor.new) }
-        ensures kept { IsKept cursor.old cursor.new }
-        ensures within { IfOk result (IsWithin self.now.room) }
-    {
-        let x = cursor.expect_note(Mark::Name)?;
-        Ok(Path::Plain(make_name(self.alloc, x)?))
-    }
-
-    #[tactic(auto, unfolding(crate::specs::ClauseReading::path_this))]
-    fn path_this<'a>(&self, cursor: &mut Cursor<'a>) -> Result<Path<'a>, ParseError>
-        requires side { cursor.old.note ≡ true }
-        requires some { 0 < self.now.room }
-        ensures reads { Reads path_of (note_rule rules.path_this self.now.room self.now.quantifiers (seen cursor.old)) result (seen cursor.new) }
-        ensures kept { IsKept cursor.old cursor.new }
-        ensures within { IfOk result (IsWithin self.now.room) }
-    {
-        let x = cursor.expect_note(Mark::This)?;
-        Ok(Path::Plain(leaf(self.alloc, x.span, ExprNode::This)?))
-    }
-
     /// What a path begins with.
-    #[tactic(auto, unfolding(crate::specs::ClauseReading::path_first))]
+    #[tactic(auto, unfolding(crate::specs::ClauseReading::path_first, crate::specs::ClauseReading::path_name, crate::specs::ClauseReading::path_this))]
     fn path_first<'a>(&self, cursor: &mut Cursor<'a>) -> Result<Path<'a>, ParseError>
         requires side { cursor.old.note ≡ true }
         ensures reads { Reads path_of (note_rule rules.path_first self.now.room self.now.quantifiers (seen cursor.old)) result (seen cursor.new) }
@@ -71,8 +47,14 @@ impl<
     {
         match cursor.peek() {
             Mark::Name | Mark::This if self.room == 0 => Err(cursor.too_deep()),
-            Mark::Name => self.path_name(cursor),
-            Mark::This => self.path_this(cursor),
+            Mark::Name => {
+                let x = cursor.expect_note(Mark::Name)?;
+                Ok(Path::Plain(make_name(self.alloc, x)?))
+            }
+            Mark::This => {
+                let x = cursor.expect_note(Mark::This)?;
+                Ok(Path::Plain(leaf(self.alloc, x.span, ExprNode::This)?))
+            }
             _ => Err(cursor.refuse()),
         }
     }
@@ -183,30 +165,8 @@ impl<
         Ok(StoreStep::GoesOn(Path::WithIndex(e, bracket, i, last)))
     }
 
-    /// An index, or the bounds of a range.
-    #[tactic(auto, unfolding(crate::specs::ClauseReading::bounded_by))]
-    fn bounded_by<'a>(
-        &self,
-        cursor: &mut Cursor<'a>,
-        e: Found,
-        bracket: Lexeme<'a>,
-    ) -> Result<StoreStep<'a>, ParseError>
-        requires nests { Nests self.now.room (F.pre self.now.expr) (F.post self.now.expr) }
-        requires side { cursor.old.note ≡ true }
-        requires fits { e.depth ≤ self.now.room }
-        ensures reads { Reads step_of (note_rule rules.bounded_by self.now.room self.now.quantifiers (parsed e) (lexeme bracket.entry) (seen cursor.old)) result (seen cursor.new) }
-        ensures kept { IsKept cursor.old cursor.new }
-        ensures within { IfOk result (IsStepWithin self.now.room) }
-    {
-        let i = self.expression(cursor)?;
-        if same_word(cursor.peek_word(), NoteWord::Range) {
-            self.ranged(cursor, e, i)
-        } else {
-            self.path_index(cursor, e, bracket, i)
-        }
-    }
-
-    #[tactic(auto, unfolding(crate::specs::ClauseReading::path_bracketed))]
+    /// Behind a bracket: all elements, an index, or the bounds of a range.
+    #[tactic(auto, unfolding(crate::specs::ClauseReading::path_bracketed, crate::specs::ClauseReading::bounded_by))]
     fn path_bracketed<'a>(
         &self,
         cursor: &mut Cursor<'a>,
@@ -221,9 +181,13 @@ impl<
     {
         let bracket = cursor.expect_note(Mark::LeftBracket)?;
         if same_mark(cursor.peek(), Mark::Times) {
-            self.all_starred(cursor, e)
+            return self.all_starred(cursor, e);
+        }
+        let i = self.expression(cursor)?;
+        if same_word(cursor.peek_word(), NoteWord::Range) {
+            self.ranged(cursor, e, i)
         } else {
-            self.bounded_by(cursor, e, bracket)
+            self.path_index(cursor, e, bracket, i)
         }
     }
 
