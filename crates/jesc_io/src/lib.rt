@@ -18,8 +18,6 @@ mod memory;
 mod outside;
 mod sinks;
 mod steady_files;
-#[cfg(test)]
-mod tests;
 mod whole;
 
 pub use disk::{DiskFiles, StdSink};

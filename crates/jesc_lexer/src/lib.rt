@@ -21,8 +21,6 @@ mod piece;
 mod reading;
 mod scan;
 mod sign;
-#[cfg(test)]
-mod tests;
 mod token;
 mod word;
 

@@ -23,7 +23,4 @@ mod table;
 
 pub use outcome::{Outcome, decide};
 pub use rows::{LinStep, Row};
-pub use steps::check_steps;
-
-#[cfg(test)]
-mod tests;
+pub use steps::{check_steps, is_form};

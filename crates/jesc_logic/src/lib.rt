@@ -20,6 +20,3 @@ pub use fact::{Fact, Sort};
 pub use facts::Facts;
 pub use formula::{Formula, FormulaNode};
 pub use terms::{Node, TermError, TermId, Terms};
-
-#[cfg(test)]
-mod tests;

@@ -1,4 +1,4 @@
-use crate::{Condition, Fact, Facts, Formula, FormulaNode, Node, TermId, Terms};
+use jesc_logic::{Condition, Fact, Facts, Formula, FormulaNode, Node, TermId, Terms};
 use jesc_text::{List, Place};
 use jesc_tree::Kind;
 use std::alloc::Global;

@@ -1,4 +1,4 @@
-use super::*;
+use jesc_lexer::*;
 use jesc_text::{OutOfMemory, Place, Text, put_number};
 use std::alloc::Global;
 

@@ -4,7 +4,7 @@ use Rattle.std.proofs.lemmas.List.{take_all}
 use Rattle.std.proofs.lemmas.List.Elements.{All-more}
 use Rattle.jesc_linear.specs.declared.rows.Row.{Row}
 use Rattle.jesc_linear.specs.Forms.{IsForm}
-use Rattle.jesc_linear.proofs.tests.are_forms.Goals as goal
+use Rattle.jesc_linear_tests.proofs.tests.are_forms.Goals as goal
 
 abbrev HasForm : Row → Type 0
 HasForm row = IsForm row.form

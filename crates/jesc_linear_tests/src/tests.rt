@@ -2,8 +2,7 @@
 ghost use Rattle.std.specs.Prelude.{◌≡◌, ◌↔◌, IsTrue, All, take};
 ghost use Rattle.jesc_linear.specs.Forms.{IsForm};
 
-use super::*;
-use crate::steps::is_form;
+use jesc_linear::{LinStep, Outcome, Row, check_steps, decide, is_form};
 use jesc_text::{List, OutOfMemory};
 use std::alloc::Global;
 use std::test::Fail;

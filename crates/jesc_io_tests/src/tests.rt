@@ -1,4 +1,4 @@
-use crate::{
+use jesc_io::{
     DiskFiles, Files, IoError, MemFiles, MemSink, ReadError, Sink, StdSink, SteadyFiles,
     SteadySink, read_whole,
 };
