@@ -3,3 +3,13 @@ pub mod Exact
 pub mod Divisors
 pub mod Normalized
 pub mod Turned
+pub mod Merging
+pub mod Wide
+pub mod Tables
+pub mod Terms
+pub mod Reading
+pub mod Stepping
+pub mod Combining
+pub mod Applying
+pub mod Comparing
+pub mod Walking
