@@ -5,7 +5,7 @@ use Rattle.std.specs.List.{AllZip, sum_by}
 use Rattle.std.proofs.lemmas.List.Sums.{sum-map, sum_by-append, sum_by-cons}
 use Rattle.jesc_lexer.specs.declared.token.Tokens.{Tokens}
 use Rattle.jesc_ast.specs.declared.class.File.{File}
-use Rattle.jesc_names.specs.Given.{IsSpelled, AreGiven, AreSpelled}
+use Rattle.jesc_classes.specs.Given.{IsSpelled, AreGiven, AreSpelled}
 use Rattle.jesc_headings.specs.Counted.{AreCounted}
 
 one_more : (all : List Tokens) (files : List File) (tokens : Tokens) (file : File) → AllZip IsSpelled all files → IsSpelled tokens file → AllZip IsSpelled (all ++ tokens ∷ []) (files ++ file ∷ [])

@@ -10,8 +10,8 @@ mod parsed;
 mod tests;
 
 use crate::parsed::{ParseStop, Parsed};
+use jesc_classes::{RuleError, class_headings};
 use jesc_io::{DiskFiles, read_whole};
-use jesc_names::{RuleError, class_headings};
 use std::env;
 use std::process::ExitCode;
 use std::time::Instant;

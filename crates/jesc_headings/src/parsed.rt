@@ -1,7 +1,7 @@
 //! The files of one program, parsed.
 
 ghost use Rattle.jesc_headings.specs.Counted.{AreCounted};
-ghost use Rattle.jesc_names.specs.Given.{AreGiven};
+ghost use Rattle.jesc_classes.specs.Given.{AreGiven};
 
 use jesc_ast::File;
 use jesc_java_parser::parse_file;

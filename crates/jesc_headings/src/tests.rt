@@ -2,7 +2,7 @@
 //! of their ids, the predefined ones left out, or the rule broken.
 
 use crate::parsed::Parsed;
-use jesc_names::{Rule, RuleError, class_headings};
+use jesc_classes::{Rule, RuleError, class_headings};
 use jesc_rows::{is_row, parts_of, put, put_count, put_text, put_word, said};
 use jesc_text::Text;
 use jesc_tree::Class;

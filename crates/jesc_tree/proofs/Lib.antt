@@ -1,3 +1,3 @@
-mod Sets
+pub mod Sets
 mod Climb
 mod Fitted

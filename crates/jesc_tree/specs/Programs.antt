@@ -2,6 +2,7 @@
 use Rattle.std.specs.Prelude.{◌≡◌, ℕ, ◌<◌, true, false, Option, None, List, [], ◌∷◌, ◌++◌, ◌⊎◌, length, map, take, codes}
 use Rattle.std.specs.List.{All}
 use Rattle.std.specs.Fmt.{decimal}
+use Rattle.jesc_text.specs.declared.place.Place.{Place}
 use Rattle.jesc_tree.specs.declared.ids.ClassId.{ClassId}
 use Rattle.jesc_tree.specs.declared.class.Class.{Class}
 use Rattle.jesc_tree.specs.declared.class.Field.{Field}
@@ -20,8 +21,13 @@ abbrev pub predefined : List (List ℕ × List ℕ)
 predefined = (codes "Object", []) ∷ (codes "Throwable", 0 ∷ []) ∷ (codes "Exception", 1 ∷ []) ∷ (codes "Error", 1 ∷ [])
     ∷ (codes "RuntimeException", 2 ∷ []) ∷ (codes "IllegalArgumentException", 4 ∷ []) ∷ (codes "IllegalStateException", 4 ∷ []) ∷ []
 
--- a class that is neither an interface nor abstract, with nothing but a name, a superclass and constructors
+-- the place of what no file holds
+abbrev pub nowhere : Place
+nowhere = record { file = 0; line = 0; col = 0 }
+
+-- a class that is neither an interface nor abstract, in no file, with nothing but a name, a superclass and constructors
 pub record IsBare (c : Class) : Type 0 where
+  pub place : c.place ≡ nowhere
   pub interfaces : c.interfaces ≡ []
   pub is_class : c.is_interface ≡ false
   pub is_concrete : c.is_abstract ≡ false
@@ -33,7 +39,7 @@ pub record IsBare (c : Class) : Type 0 where
 abbrev pub bare_class : List ℕ → Option ClassId → Class
 bare_class name parent = record {
   name = name;
-  place = record { file = 0; line = 0; col = 0 };
+  place = nowhere;
   parent = parent;
   interfaces = [];
   is_interface = false;

@@ -1,7 +1,7 @@
 use Rattle.std.proofs.Common.{◌≡◌, ◌+◌, ◌++◌, ◌∷◌, [], List, length, sym, ap, subst, arith}
 use Rattle.std.proofs.Math.Logic.{∥∥₁_map}
 use Rattle.jesc_ast.specs.declared.class.File.{File}
-use Rattle.jesc_names.specs.Given.{IsSpelled}
+use Rattle.jesc_classes.specs.Given.{IsSpelled}
 use Rattle.jesc_headings.specs.Counted.{AreCounted}
 use Rattle.jesc_headings.proofs.Growing.{counted_more}
 use Rattle.jesc_headings.proofs.parsed.Parsed.add.Goals as goal

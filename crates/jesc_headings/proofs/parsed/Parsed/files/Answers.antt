@@ -1,7 +1,7 @@
 use Rattle.std.proofs.Common.{◌≡◌, List, sym, subst}
 use Rattle.std.proofs.Math.Logic.{∥∥₁_map}
 use Rattle.jesc_ast.specs.declared.class.File.{File}
-use Rattle.jesc_names.specs.Given.{AreGiven}
+use Rattle.jesc_classes.specs.Given.{AreGiven}
 use Rattle.jesc_headings.proofs.Growing.{given}
 use Rattle.jesc_headings.proofs.parsed.Parsed.files.Goals as goal
 

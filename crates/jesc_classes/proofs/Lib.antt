@@ -1,0 +1,16 @@
+pub mod Shown
+pub mod Release
+pub mod Start
+pub mod Rounds
+pub mod Starts
+pub mod Firsts
+pub mod Files
+pub mod Interfaces
+pub mod Walk
+pub mod Supers
+pub mod Ranked
+pub mod Marked
+pub mod Words
+pub mod Numbers
+pub mod Filled
+pub mod Ordered

@@ -1,0 +1,13 @@
+pub mod Named
+pub mod Answers
+pub mod Given
+pub mod Order
+pub mod Progress
+pub mod Ranks
+pub mod Headings
+pub mod Clauses
+pub mod Sources
+pub mod Resolved
+pub mod Entries
+pub mod Tables
+pub mod laws

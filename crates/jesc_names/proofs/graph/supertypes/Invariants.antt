@@ -1,8 +1,0 @@
-use Rattle.std.proofs.Common.{◌≡◌, ◌++◌, map, take}
-use Rattle.jesc_tree.specs.Programs.{predefined}
-use Rattle.jesc_names.specs.laws.Graphs.{row}
-use Rattle.jesc_names.specs.Sources.{seen}
-use Rattle.jesc_names.proofs.graph.supertypes.Given as goal
-
-abbrev pub invariant-loop-class : goal.invariant-loop-class
-invariant-loop-class l = l.graph ≡ map (λ p. p.1) predefined ++ map (row l.classes) (map seen (take l.class-index l.class-items))

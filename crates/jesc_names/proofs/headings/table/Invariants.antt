@@ -1,5 +1,0 @@
-use Rattle.jesc_names.proofs.Filled.{AreEntriesBelow}
-use Rattle.jesc_names.proofs.headings.table.Given as goal
-
-abbrev pub invariant-loop-id : goal.invariant-loop-id
-invariant-loop-id l = AreEntriesBelow l.given l.order l.ids.items l.id l.classes

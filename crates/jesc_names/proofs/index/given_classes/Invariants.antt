@@ -1,7 +1,0 @@
-use Rattle.std.proofs.Common.{◌≡◌, map, take}
-use Rattle.jesc_names.specs.Headings.{sources}
-use Rattle.jesc_names.specs.Sources.{seen}
-use Rattle.jesc_names.proofs.index.given_classes.Given as goal
-
-abbrev pub invariant-loop-file : goal.invariant-loop-file
-invariant-loop-file l = map seen l.list ≡ sources (take l.file-index l.files)

@@ -1,7 +1,0 @@
-use Rattle.std.proofs.Common.{◌++◌, map, take}
-use Rattle.jesc_tree.specs.Programs.{predefined}
-use Rattle.jesc_names.specs.Sources.{HasFirsts, seen}
-use Rattle.jesc_names.proofs.index.names_of.Given as goal
-
-abbrev pub invariant-loop-i : goal.invariant-loop-i
-invariant-loop-i l = HasFirsts l.names (map (λ p. p.0) predefined ++ take l.i (map (λ s. s.tree.name.text) (map seen l.list)))

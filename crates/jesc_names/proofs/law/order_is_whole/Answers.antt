@@ -1,5 +1,0 @@
-use Rattle.jesc_names.specs.laws.Orders.{whole_exactly_acyclic}
-use Rattle.jesc_names.proofs.law.order_is_whole.Goals as goal
-
-pub returns : goal.returns
-returns c = whole_exactly_acyclic

@@ -1,9 +1,0 @@
-use Rattle.std.proofs.Common.{[], List, drop, take}
-use Rattle.jesc_names.specs.Headings.{Judges, Source, modifiers_from}
-use Rattle.jesc_names.specs.Sources.{seen}
-use Rattle.jesc_names.proofs.Walk.{Answer}
-use Rattle.jesc_names.proofs.modifiers.judge_modifiers.Given as goal
-
--- what is answered for the modifiers that are left is the answer for all
-abbrev pub invariant-loop-i : goal.invariant-loop-i
-invariant-loop-i l = (given : List Source) (r : Answer) → Judges given r (modifiers_from (seen l.class) (take l.i l.words) (drop l.i l.words)) → Judges given r (modifiers_from (seen l.class) [] l.words)

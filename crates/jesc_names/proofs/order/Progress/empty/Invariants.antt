@@ -1,5 +1,0 @@
-use Rattle.jesc_names.proofs.Start.{IsBlank}
-use Rattle.jesc_names.proofs.order.Progress.empty.Given as goal
-
-abbrev pub invariant-loop-class : goal.invariant-loop-class
-invariant-loop-class l = IsBlank l._class l.has_id.items l.waiting.items

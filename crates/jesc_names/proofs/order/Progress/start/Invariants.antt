@@ -1,5 +1,0 @@
-use Rattle.jesc_names.proofs.Start.{Starts}
-use Rattle.jesc_names.proofs.order.Progress.start.Given as goal
-
-abbrev pub invariant-loop-class : goal.invariant-loop-class
-invariant-loop-class l = Starts l.graph l.class l.progress
