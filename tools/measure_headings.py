@@ -1,5 +1,5 @@
 #!/usr/bin/env python3
-"""Times the class headings of hostile programs.
+"""Times the headings of hostile programs.
 
     tools/measure_headings.py PROGRAM [CLASSES]
 
@@ -51,6 +51,32 @@ def diamonds(count):
     return ["interface C0 { }", "interface C1 { }"] + [f"interface C{i} extends C{i - 1}, C{i - 2} {{ }}" for i in range(2, count)]
 
 
+def overriding(count):
+    """A chain of classes, each of which overrides one method."""
+    first = ["class C0 { int f(int a) { return a; } }"]
+    return first + [f"class C{i} extends C{i - 1} {{ int f(int a) {{ return a; }} }}" for i in range(1, count)]
+
+
+def members(count):
+    """One class with a fifth as many fields and methods."""
+    return ["class C {"] + [f"int f{i}; int g{i}(int a) {{ return a; }}" for i in range(count // 10)] + ["}"]
+
+
+def deep_diamonds(count):
+    """Diamonds of interfaces, one upon the other, each interface with a method of its own."""
+    lines = ["interface C0 { }"]
+    for i in range(1, count // 3):
+        sides = [f"interface {side}{i} extends C{i - 1} {{ int {side.lower()}{i}(); }}" for side in "AB"]
+        lines += [*sides, f"interface C{i} extends A{i}, B{i} {{ int c{i}(); }}"]
+    return lines
+
+
+def groups(count):
+    """A fifth as many fields in one model field, and a chain of model fields towards it."""
+    chain = [f"/*@ model int m{i}; in m{i + 1}; @*/" for i in range(100)]
+    return ["class C {", *chain, "/*@ model int m100; @*/"] + [f"int f{i}; /*@ in m100; @*/" for i in range(count // 5)] + ["}"]
+
+
 def files_of(lines, folder):
     """Writes the lines to files of less than a megabyte, and gives their names."""
     names, text = [], ""
@@ -78,7 +104,7 @@ def main():
     if len(sys.argv) < 2:
         sys.exit(__doc__)
     count = int(sys.argv[2]) if len(sys.argv) > 2 else 100_000
-    for shape in (chain, chain_turned, star, last_cycle, two_cycles, itself, diamonds):
+    for shape in (chain, chain_turned, star, last_cycle, two_cycles, itself, diamonds, overriding, members, deep_diamonds, groups):
         small, less = timed(sys.argv[1], shape(count // 4))
         large, more = timed(sys.argv[1], shape(count))
         print(f"{shape.__name__}: {small}; {large}; {more / max(less, 1):.1f} times")

@@ -9,9 +9,9 @@ ghost use Rattle.jesc_classes.specs.Resolved as spec;
 ghost use Rattle.jesc_classes.specs.Sources.{seen};
 
 use crate::graph::named;
-use crate::index::is_among;
 use crate::place::place_at;
 use crate::source::{Classes, GivenClass};
+use crate::texts::stands_in;
 use jesc_ast::{ClassTree, Word};
 use jesc_text::{List, OutOfMemory, Text};
 use jesc_tree::{Class, ClassId};
@@ -42,7 +42,7 @@ pub fn entry(
         parent: superclass(given, ids, tree),
         interfaces,
         is_interface: tree.is_interface,
-        is_abstract: is_among(b"abstract", tree.modifiers.as_slice()),
+        is_abstract: stands_in(tree.modifiers.as_slice(), b"abstract"),
         fields: List::new(alloc),
         methods: List::new(alloc),
         invariants: List::new(alloc),

@@ -9,7 +9,8 @@ ghost use Rattle.jesc_classes.specs.Sources.{AddsFirst, HasFirsts, seen};
 
 use crate::source::GivenClass;
 use crate::table::Table;
-use jesc_ast::{File, Word};
+use crate::texts::stands_in;
+use jesc_ast::File;
 use jesc_text::{List, OutOfMemory};
 use std::alloc::Global;
 
@@ -48,16 +49,9 @@ pub fn finals_of(alloc: Global, list: &[GivenClass<'_>]) -> Result<List<bool>, O
 {
     let mut finals = List::new(alloc);
     for class in list {
-        finals.push(is_among(b"final", class.tree.modifiers.as_slice()))?;
+        finals.push(stands_in(class.tree.modifiers.as_slice(), b"final"))?;
     }
     Ok(finals)
-}
-
-/// Whether one of these words is that one.
-pub fn is_among(text: &[u8], words: &[Word]) -> bool
-    ensures { result ≡ list_any (is_word text.now) words.now }
-{
-    words.iter().any(|word| text == word.text.as_slice())
 }
 
 /// The number of the first class of each name, predefined or given.

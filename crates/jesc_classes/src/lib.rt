@@ -5,7 +5,7 @@
 //! `index` beside it; `graph`, the supertypes that headings name; `order`, the ids, in rounds of `ids`; `cycle`, which
 //! classes lie above themselves, with `components` to spare it walks; `judge`, the rules, with `modifiers`, `hierarchy`
 //! and `refusal`; and `entry`, what the table holds of a class. `table` is the map from names that this layer and the one
-//! of types use, `place` the place of an offset, and `law` has laws over the definitions.
+//! of types use, `place` the place of an offset, `texts` which texts are equal, and `law` has laws over the definitions.
 //!
 //! In `specs/`, `Answers` is the small theory of the first rule broken and `Named` what a table of names holds. `Given`
 //! says which trees a call gets, `Headings` what the rules on class headings are, `Order` in which order classes get
@@ -30,12 +30,13 @@ mod refusal;
 mod rule;
 mod source;
 mod table;
+mod texts;
 
 pub use cycle::{is_on_cycle, ranks};
 pub use headings::{ClassTables, class_headings, class_tables};
-pub use modifiers::stands_in;
 pub use place::place_at;
 pub use refusal::{refuse, refuse_at};
 pub use rule::{Rule, RuleError};
 pub use source::{Classes, GivenClass};
 pub use table::Table;
+pub use texts::{is_same, stands_in};

@@ -1,16 +1,17 @@
 //! The rule on modifiers of classes and interfaces.
 
-ghost use Rattle.std.specs.Prelude.{◌≡◌, ◌∷◌, [], List, bytes_eq};
-ghost use Rattle.std.specs.List.{All, list_any};
+ghost use Rattle.std.specs.Prelude.{◌≡◌, ◌∷◌, [], List};
+ghost use Rattle.std.specs.List.{All};
 ghost use Rattle.jesc_ast.specs.Lines.{IsLines};
 ghost use Rattle.jesc_ast.specs.Words.{is_one_of};
 ghost use Rattle.jesc_classes.specs.Given.{IsPlaced};
-ghost use Rattle.jesc_classes.specs.Headings.{Judges, Source, allowed, is_word, modifier, modifiers_from};
+ghost use Rattle.jesc_classes.specs.Headings.{Judges, Source, allowed, modifier, modifiers_from};
 ghost use Rattle.jesc_classes.specs.Sources.{seen};
 
 use crate::refusal::refuse;
 use crate::rule::{Rule, RuleError};
 use crate::source::GivenClass;
+use crate::texts::{is_same, stands_in};
 use jesc_ast::Word;
 use std::alloc::Global;
 
@@ -47,25 +48,12 @@ fn judge_modifier(
     }
 }
 
-/// Whether one of the words has this text. Takes no memory.
-pub fn stands_in(words: &[Word], text: &[u8]) -> bool
-    ensures { result ≡ list_any (is_word text.now) words.now }
-{
-    words.iter().any(|word| text == word.text.as_slice())
-}
-
 fn is_allowed(is_interface: bool, text: &[u8]) -> bool
     ensures { result ≡ is_one_of (allowed is_interface) text.now }
 {
     if is_interface {
-        same(text, b"public") || same(text, b"abstract")
+        is_same(text, b"public") || is_same(text, b"abstract")
     } else {
-        same(text, b"public") || same(text, b"final") || same(text, b"abstract")
+        is_same(text, b"public") || is_same(text, b"final") || is_same(text, b"abstract")
     }
-}
-
-fn same(a: &[u8], b: &[u8]) -> bool
-    ensures { result ≡ bytes_eq a.now b.now }
-{
-    a == b
 }

@@ -26,7 +26,10 @@ pub fn refuse(
     refuse_at(alloc, number, lines, word.span, word.text.as_slice())
 }
 
-/// The same for a text that stands there, as a type's base.
+/// The error that a rule is broken at this span of a file whose lines begin at these offsets, where the error has this
+/// text, as the base of a type.
+///
+/// Answers `OutOfMemory` where there is no room for a copy of the text.
 pub fn refuse_at(
     alloc: Global,
     number: Rule,

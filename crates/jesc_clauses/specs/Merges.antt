@@ -8,7 +8,7 @@ use Rattle.jesc_clauses.specs.declared.error.ClauseError.TheVariants.{Wide, OutO
 abbrev pub IsWithin : ℕ → ℤ × ℕ → Type 0
 IsWithin limit part = unsigned_abs part.0 ≤ limit
 
--- the term rise, no coefficient is 0, and none passes the limit in size
+-- the terms rise, no coefficient is 0, and none passes the limit in size
 pub record IsSized (limit : ℕ) (form : Form) : Type 0 where
   pub sorted : IsForm form
   pub within : All (IsWithin limit) form

@@ -9,7 +9,7 @@ ghost use Rattle.jesc_clauses.specs.Comparisons.{IsComparison, IsNarrowAtom, IsN
 
 use crate::atom::Atom;
 use crate::error::ClauseError;
-use crate::lin::{Lin, narrow};
+use crate::lin::{Lin, MOST_COEFFICIENT, narrow};
 use crate::merge::together;
 use crate::normal::{Normal, normal_form};
 use jesc_text::{List, OutOfMemory};
@@ -41,7 +41,7 @@ fn difference(
     requires y { IsSized (2 ^ 31) y.now }
     ensures { IfOk result (IsTogether (2 ^ 33) (pos 1) x.now (negsuc 0) y.now) }
 {
-    match together(alloc, x, 1, y, -1, 0x2_0000_0000) {
+    match together(alloc, x, 1, y, -1, 1 << 33) {
         Ok(form) => Ok(form),
         Err(ClauseError::OutOfMemory) => Err(OutOfMemory),
         Err(ClauseError::Wide(_)) => unreachable!(),
@@ -68,7 +68,7 @@ fn look_at_atom(atom: &Atom) -> Result<(), ClauseError>
     ensures wide { OnWide (IsWideAtom atom.now) result }
 {
     for part in atom.form.as_slice() {
-        if part.0.unsigned_abs() > 0x8000_0000 {
+        if part.0.unsigned_abs() > MOST_COEFFICIENT {
             return Err(ClauseError::Wide(part.0 as i128));
         }
     }

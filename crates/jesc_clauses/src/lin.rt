@@ -11,6 +11,15 @@ use crate::merge::together;
 use jesc_text::{List, OutOfMemory};
 use std::alloc::Global;
 
+/// The greatest size of a coefficient.
+pub(crate) const MOST_COEFFICIENT: u64 = 1 << 31;
+
+/// The greatest size of a constant.
+const MOST_CONSTANT: u128 = 1 << 94;
+
+/// The greatest size of a number that an error tells.
+const MOST_TOLD: i128 = 1 << 126;
+
 /// A sum of coefficients times numbered opaque terms, and a constant.
 ///
 /// The terms rise strictly, and no coefficient is 0.
@@ -57,7 +66,7 @@ pub(crate) fn added(alloc: Global, x: &Lin, y: &Lin) -> Result<Lin, ClauseError>
         1,
         y.form.as_slice(),
         1,
-        0x8000_0000,
+        MOST_COEFFICIENT,
     )?;
     Ok(Lin { form, constant })
 }
@@ -76,7 +85,7 @@ pub(crate) fn multiplied(alloc: Global, k: i128, x: &Lin) -> Result<Lin, ClauseE
         k,
         x.form.as_slice(),
         0,
-        0x8000_0000,
+        MOST_COEFFICIENT,
     )?;
     Ok(Lin { form, constant })
 }
@@ -86,11 +95,10 @@ pub(crate) fn narrow(n: i128) -> Result<i128, ClauseError>
     ensures small { IfOk result (λ m. (m ≡ n) × (unsigned_abs n ≤ 2 ^ 94)) }
     ensures wide { OnWide (λ m. (m ≡ capped n) × (2 ^ 94 < unsigned_abs n)) result }
 {
-    const MOST: i128 = 0x4000_0000_0000_0000_0000_0000_0000_0000;
-    if n.unsigned_abs() <= 0x4000_0000_0000_0000_0000_0000 {
+    if n.unsigned_abs() <= MOST_CONSTANT {
         return Ok(n);
     }
-    Err(ClauseError::Wide(n.min(MOST).max(-MOST)))
+    Err(ClauseError::Wide(n.min(MOST_TOLD).max(-MOST_TOLD)))
 }
 
 /// The product of two constants, if it is small enough for one.
@@ -104,9 +112,9 @@ fn product(k: i128, c: i128) -> Result<i128, ClauseError>
         Some(product) => narrow(product),
         None => {
             if (k < 0) == (c < 0) {
-                Err(ClauseError::Wide(0x4000_0000_0000_0000_0000_0000_0000_0000))
+                Err(ClauseError::Wide(MOST_TOLD))
             } else {
-                Err(ClauseError::Wide(-0x4000_0000_0000_0000_0000_0000_0000_0000))
+                Err(ClauseError::Wide(-MOST_TOLD))
             }
         }
     }

@@ -27,6 +27,7 @@ impl Reader {
     pub(crate) fn new(alloc: Global, terms: &Terms) -> Reader
         ensures { IsReader terms.now result.sums result.opaques }
     {
+        // the call brings the table's invariant into the proof
         let _count = terms.len();
         Reader {
             sums: SumTable::new(alloc),

@@ -1,2 +1,5 @@
-interface Named { }
+interface Named {
+    int number();
+}
+
 class Thing { }

@@ -1,17 +1,22 @@
-//! Reads files and tells what their class headings give: to time and to test the call that the checker will make.
+//! Reads files and tells what their headings give: to time and to test the call that the checker will make.
 //!
-//! The words after the program's name are names of files. It prints the number of classes, the predefined ones among them,
-//! or the rule that is broken, and on standard error the microseconds that the headings took. `parsed` makes trees of the
+//! The words after the program's name are names of files. It prints how many classes, fields and methods there are, the
+//! predefined ones among them, or the rule that is broken, and on standard error the microseconds that the headings took. `parsed` makes trees of the
 //! files.
 #![tactic(auto)]
 
+#[cfg(test)]
+mod member_rows;
 mod parsed;
+#[cfg(test)]
+mod shown;
 #[cfg(test)]
 mod tests;
 
 use crate::parsed::{ParseStop, Parsed};
-use jesc_classes::{RuleError, class_headings};
+use jesc_classes::RuleError;
 use jesc_io::{DiskFiles, read_whole};
+use jesc_names::headings;
 use std::env;
 use std::process::ExitCode;
 use std::time::Instant;
@@ -36,11 +41,16 @@ fn read_all(rt: &HostRuntime) -> Result<Parsed, ParseStop> {
 /// Prints what the headings give, and on standard error how long they took.
 fn print_answer(rt: &HostRuntime, parsed: &Parsed) -> std::io::Result<()> {
     let start = Instant::now(rt)?;
-    let answer = class_headings(rt.alloc(), parsed.files());
+    let answer = headings(rt.alloc(), parsed.files());
     let micros = start.elapsed(rt)?.as_micros();
     eprintln!(rt; "in {micros} us")?;
     match &answer {
-        Ok(program) => println!(rt; "{} classes", program.classes().len()),
+        Ok(program) => println!(rt;
+            "{} classes, {} fields, {} methods",
+            program.classes().len(),
+            program.fields().len(),
+            program.methods().len()
+        ),
         Err(
             RuleError::Refused {
                 number,

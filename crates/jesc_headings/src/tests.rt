@@ -1,11 +1,14 @@
 //! Tables of programs: in each row the files, with ` ‖ ` between, and behind ` # ` the names of the classes in the order
 //! of their ids, the predefined ones left out, or the rule broken.
 
+use crate::member_rows::{BROKEN, KEPT};
 use crate::parsed::Parsed;
-use jesc_classes::{Rule, RuleError, class_headings};
+use crate::shown::put_program;
+use jesc_classes::{Rule, RuleError};
+use jesc_names::headings;
 use jesc_rows::{is_row, parts_of, put, put_count, put_text, put_word, said};
 use jesc_text::Text;
-use jesc_tree::Class;
+use jesc_tree::{Class, Program};
 use std::alloc::Global;
 use std::process::Abort;
 
@@ -80,7 +83,13 @@ fn put_rule(into: &mut Text, rule: Rule) {
         Rule::N1 => put(into, b"N1"),
         Rule::N2 => put(into, b"N2"),
         Rule::N3 => put(into, b"N3"),
+        Rule::N4 => put(into, b"N4"),
+        Rule::N5 => put(into, b"N5"),
+        Rule::N6 => put(into, b"N6"),
+        Rule::N7 => put(into, b"N7"),
+        Rule::N8 => put(into, b"N8"),
         Rule::N9 => put(into, b"N9"),
+        Rule::Y1 => put(into, b"Y1"),
         _ => put(into, b"another rule"),
     }
 }
@@ -109,8 +118,25 @@ fn put_error(into: &mut Text, error: &RuleError) {
     }
 }
 
+/// What is looked at in a program.
+#[derive(Drop, Clone, Copy)]
+enum Shown {
+    /// The names of the classes.
+    Names,
+    /// The classes with their members.
+    Tables,
+}
+
+/// Appends what is looked at in the program.
+fn put_shown(into: &mut Text, shown: Shown, program: &Program) {
+    match shown {
+        Shown::Names => put_names(into, program.classes()),
+        Shown::Tables => put_program(into, program),
+    }
+}
+
 /// What the headings of these files give, in one line.
-fn found(alloc: Global, files: &str) -> Text {
+fn found(alloc: Global, shown: Shown, files: &str) -> Text {
     let mut out = Text::new(alloc);
     let mut parsed = Parsed::new(alloc);
     for file in files.split(" ‖ ") {
@@ -121,19 +147,19 @@ fn found(alloc: Global, files: &str) -> Text {
             Err(_) => put(&mut out, b"no file "),
         }
     }
-    match &class_headings(alloc, parsed.files()) {
-        Ok(program) => put_names(&mut out, program.classes()),
+    match &headings(alloc, parsed.files()) {
+        Ok(program) => put_shown(&mut out, shown, program),
         Err(error) => put_error(&mut out, error),
     }
     out
 }
 
 /// Asserts what each row says.
-fn expect_rows(rt: &impl Abort, alloc: Global, table: &str) {
+fn expect_rows(rt: &impl Abort, alloc: Global, shown: Shown, table: &str) {
     for line in table.lines() {
         if is_row(line) {
             let (files, wanted) = parts_of(line);
-            let found = found(alloc, files);
+            let found = found(alloc, shown, files);
             let line = said(&found);
             assert!(rt; line == wanted, "{files}: {line}");
         }
@@ -142,10 +168,20 @@ fn expect_rows(rt: &impl Abort, alloc: Global, table: &str) {
 
 #[test]
 fn ids_in_order(rt: HostRuntime) {
-    expect_rows(&rt, rt.alloc(), IDS);
+    expect_rows(&rt, rt.alloc(), Shown::Names, IDS);
 }
 
 #[test]
 fn the_first_rule_broken(rt: HostRuntime) {
-    expect_rows(&rt, rt.alloc(), REFUSED);
+    expect_rows(&rt, rt.alloc(), Shown::Names, REFUSED);
+}
+
+#[test]
+fn members_in_tables(rt: HostRuntime) {
+    expect_rows(&rt, rt.alloc(), Shown::Tables, KEPT);
+}
+
+#[test]
+fn the_first_rule_on_members_broken(rt: HostRuntime) {
+    expect_rows(&rt, rt.alloc(), Shown::Tables, BROKEN);
 }

@@ -19,8 +19,8 @@ plain x h = to_z-of_z w64 x (fits_signed_from_abs w64 x (omega (arith, h)))
 wider : (x : ℤ) → unsigned_abs x ≤ 2 ^ 33 → to_z w128 (of_z w128 (to_z w64 (of_z w64 x))) ≡ x
 wider x h = ap (λ z. to_z w128 (of_z w128 z)) (plain x h) ∙ to_z-of_z w128 x (fits_signed_from_abs w128 x (omega (arith, h)))
 
-pub returns-then-unsigned_abs-gt2147483648-clause-wide : goal.returns-then-unsigned_abs-gt2147483648-clause-wide
-returns-then-unsigned_abs-gt2147483648-clause-wide c =
+pub returns-then-unsigned_abs-gt-MOST_COEFFICIENT-clause-wide : goal.returns-then-unsigned_abs-gt-MOST_COEFFICIENT-clause-wide
+returns-then-unsigned_abs-gt-MOST_COEFFICIENT-clause-wide c =
     let items = c.as_slice-part-items.result.now in
     let k = c.loop-part.part-index in
     let part = get_or items k (pos 0, 0) in
@@ -28,7 +28,7 @@ returns-then-unsigned_abs-gt2147483648-clause-wide c =
     let size = c.unsigned_abs.ensures.value ∙ ap unsigned_abs (plain part.0 short) in
     subst (IsWideAtom c.args.atom.now) (sym (wider part.0 short))
     (wide_part c.args.atom.now k part.1 part.0 (ap (λ (f : Form). slice_get f k) (sym c.as_slice-part-items.ensures) ∙ slice_get-get_or items k (pos 0, 0) c.loop-part-test.true)
-    (let test = c.if-unsigned_abs-gt2147483648.true in omega (arith, size, test)) (omega (arith, short)))
+    (let test = c.if-unsigned_abs-gt-MOST_COEFFICIENT.true in omega (arith, size, test)) (omega (arith, short)))
 
 pub loop-part-preserved : goal.loop-part-preserved
 loop-part-preserved c =
@@ -38,7 +38,7 @@ loop-part-preserved c =
     let short : unsigned_abs part.0 ≤ 2 ^ 33 = subst (λ (f : Form). All IsShort f) (sym c.as_slice-part-items.ensures) c.requires.coefficients k (pos 0, 0) c.loop-part-test.true in
     let size = c.unsigned_abs.ensures.value ∙ ap unsigned_abs (plain part.0 short) in
     subst (λ (f : Form). All (IsWithin (2 ^ 31)) f) (sym (take_more items k (pos 0, 0) c.loop-part-test.true))
-    (All-push (IsWithin (2 ^ 31)) (take k items) part c.loop-part.invariant (let test = c.if-unsigned_abs-gt2147483648.false in omega (arith, size, test)))
+    (All-push (IsWithin (2 ^ 31)) (take k items) part c.loop-part.invariant (let test = c.if-unsigned_abs-gt-MOST_COEFFICIENT.false in omega (arith, size, test)))
 
 pub returns-in-Ok-clause-narrow : goal.returns-in-Ok-clause-narrow
 returns-in-Ok-clause-narrow c = record {

@@ -1,0 +1,9 @@
+pub mod Lookup
+pub mod Lines
+pub mod LineSets
+pub mod Numbering
+pub mod Maps
+pub mod Tries
+pub mod Tallies
+pub mod Layers
+pub mod laws

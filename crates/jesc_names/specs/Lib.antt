@@ -1,0 +1,5 @@
+pub mod Program
+pub mod TablesKnown
+pub mod TablesRows
+pub mod Judged
+pub mod laws
