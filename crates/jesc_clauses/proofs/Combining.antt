@@ -12,9 +12,9 @@ use Rattle.jesc_clauses.specs.declared.lin.Lin.{Lin}
 use Rattle.jesc_clauses.specs.declared.clause.Opaque.{Opaque}
 use Rattle.jesc_clauses.specs.Countermodels.{lin_value}
 use Rattle.jesc_clauses.specs.Merges.{IsSized, IsWithin, only_at}
-use Rattle.jesc_clauses.specs.Readings.{Values, reading, is_number, arguments}
+use Rattle.jesc_clauses.specs.Readings.{Values, reading, is_number, is_opaque, arguments}
 use Rattle.jesc_clauses.specs.Sums.{IsNarrowAll, IsWideIn, IsTooWide, IsCoefficient, IsReadAs, constant_of, names_of, valued}
-use Rattle.jesc_clauses.specs.Readers.{Entries, IsSumAt, HasSum, IsReader, AreLins, IsSumOf, IsWideSumOf, IsProductOf, IsMultipleOf, IsWideMultipleOf}
+use Rattle.jesc_clauses.specs.Readers.{Entries, IsSumAt, HasSum, IsReader, IsKnownAll, AreLins, IsSumOf, IsWideSumOf, IsProductOf, IsMultipleOf, IsWideMultipleOf}
 use Rattle.jesc_clauses.proofs.Merging.{IsUnder}
 use Rattle.jesc_clauses.proofs.Terms.{stands_itself}
 use Rattle.jesc_clauses.proofs.Reading.{same_value, value_none, wide_of}
@@ -24,7 +24,10 @@ pub lins : (table : List Term) (entries : Entries) (opaques : List Opaque) → I
 lins table entries opaques h k e s = (h.read k e s).read.bounded
 
 pub narrow_of : (table : List Term) (entries : Entries) (opaques : List Opaque) → IsReader table entries opaques → (id : TermId) → HasSum entries id.0 → IsNarrowAll (term_at table id)
-narrow_of table entries opaques h id has = (h.read has.1.0 (id.0, has.0) has.1.1).narrow
+narrow_of table entries opaques h id has = (h.read has.1.0 (id.0, has.0) has.1.1).known.narrow
+
+pub known_of : (table : List Term) (entries : Entries) (opaques : List Opaque) → IsReader table entries opaques → (id : TermId) → HasSum entries id.0 → IsKnownAll (names_of table opaques) (term_at table id)
+known_of table entries opaques h id has = (h.read has.1.0 (id.0, has.0) has.1.1).known
 
 pub read_at : (table : List Term) (entries : Entries) (opaques : List Opaque) → IsReader table entries opaques → (id : TermId) (lin : Lin) → IsSumAt entries id.0 lin → IsReadAs (names_of table opaques) (term_at table id) lin
 read_at table entries opaques h id lin s = (h.read s.0 (id.0, lin) s.1).read
@@ -47,8 +50,11 @@ number_read names t n e s = record {
 pub number_wide : (t : Term) (k n : ℤ) (is : t ≡ number k) → IsTooWide (IsCoefficient t) k n → IsWideIn t n
 number_wide t k n is h = record { term = t; stands = stands_itself t; wide = subst (λ (c : ℤ). IsTooWide (IsCoefficient t) c n) (ap constant_of (sym is)) h }
 
-pub no_arguments : (t : Term) (n : ℤ) → t ≡ number n → All IsNarrowAll (arguments t)
-no_arguments t n e = subst (λ (u : Term). All IsNarrowAll (arguments u)) (sym e) (All-nil IsNarrowAll)
+pub number_is_plain : (t : Term) (n : ℤ) → t ≡ number n → is_opaque t ≡ false
+number_is_plain t n e = ap is_opaque e
+
+pub no_arguments : (names : List Term) (t : Term) (n : ℤ) → t ≡ number n → All (IsKnownAll names) (arguments t)
+no_arguments names t n e = subst (λ (u : Term). All (IsKnownAll names) (arguments u)) (sym e) (All-nil (IsKnownAll names))
 
 -- ---- sums
 
@@ -57,9 +63,12 @@ module _ (table : List Term) (entries : Entries) (opaques : List Opaque) (h : Is
   names = names_of table opaques
 
   module _ (a b id : TermId) (is : term_at table id ≡ binary 0 (term_at table a) (term_at table b)) where
-    pub sum_arguments : HasSum entries a.0 → HasSum entries b.0 → All IsNarrowAll (arguments (term_at table id))
-    sum_arguments p q = subst (λ (t : Term). All IsNarrowAll (arguments t)) (sym is)
-        (All-cons IsNarrowAll (term_at table a) (term_at table b ∷ []) (narrow_of table entries opaques h a p) (All-cons IsNarrowAll (term_at table b) [] (narrow_of table entries opaques h b q) (All-nil IsNarrowAll)))
+    pub sum_arguments : HasSum entries a.0 → HasSum entries b.0 → All (IsKnownAll names) (arguments (term_at table id))
+    sum_arguments p q = subst (λ (t : Term). All (IsKnownAll names) (arguments t)) (sym is)
+        (All-cons (IsKnownAll names) (term_at table a) (term_at table b ∷ []) (known_of table entries opaques h a p) (All-cons (IsKnownAll names) (term_at table b) [] (known_of table entries opaques h b q) (All-nil (IsKnownAll names))))
+
+    pub sum_is_plain : is_opaque (term_at table id) ≡ false
+    sum_is_plain = ap is_opaque is
 
     pub sum_read : (lin : Lin) → IsSumOf entries a.0 b.0 lin → IsReadAs names (term_at table id) lin
     sum_read lin s =
@@ -97,16 +106,23 @@ module _ (table : List Term) (entries : Entries) (opaques : List Opaque) (h : Is
       ap (reading w) (p ∙ ap (λ (x : Term). binary 1 a x) e)
       ∙ (ap (λ o. if not o then w (binary 1 a (number k)) else reading w a *ℤ k) (or_true (is_number a)) ∙ *ℤ_comm (reading w a) k)
 
-  product_both : (f a t : Term) → IsProductOf f a t → IsNarrowAll f → IsNarrowAll a → All IsNarrowAll (arguments t)
-  product_both f a t (inl p) x y = subst (λ (u : Term). All IsNarrowAll (arguments u)) (sym p) (All-cons IsNarrowAll f (a ∷ []) x (All-cons IsNarrowAll a [] y (All-nil IsNarrowAll)))
-  product_both f a t (inr p) x y = subst (λ (u : Term). All IsNarrowAll (arguments u)) (sym p) (All-cons IsNarrowAll a (f ∷ []) y (All-cons IsNarrowAll f [] x (All-nil IsNarrowAll)))
+  product_both : (f a t : Term) → IsProductOf f a t → IsKnownAll names f → IsKnownAll names a → All (IsKnownAll names) (arguments t)
+  product_both f a t (inl p) x y = subst (λ (u : Term). All (IsKnownAll names) (arguments u)) (sym p) (All-cons (IsKnownAll names) f (a ∷ []) x (All-cons (IsKnownAll names) a [] y (All-nil (IsKnownAll names))))
+  product_both f a t (inr p) x y = subst (λ (u : Term). All (IsKnownAll names) (arguments u)) (sym p) (All-cons (IsKnownAll names) a (f ∷ []) y (All-cons (IsKnownAll names) f [] x (All-nil (IsKnownAll names))))
+
+  product_plain : (k : ℤ) (f a t : Term) → f ≡ number k → IsProductOf f a t → is_opaque t ≡ false
+  product_plain k f a t e (inl p) = ap is_opaque (p ∙ ap (λ (x : Term). binary 1 x a) e)
+  product_plain k f a t e (inr p) = ap is_opaque (p ∙ ap (λ (x : Term). binary 1 a x) e) ∙ ap not (or_true (is_number a))
 
   module _ (factor a id : TermId) (k : ℤ) (is_k : term_at table factor ≡ number k) (is : IsProductOf (term_at table factor) (term_at table a) (term_at table id)) where
     pub factor_small : HasSum entries factor.0 → unsigned_abs k ≤ 2 ^ 94
     factor_small p = subst (λ (t : Term). unsigned_abs (constant_of t) ≤ 2 ^ 94) is_k (narrow_of table entries opaques h factor p (term_at table factor) (stands_itself (term_at table factor))).constant
 
-    pub product_arguments : HasSum entries factor.0 → HasSum entries a.0 → All IsNarrowAll (arguments (term_at table id))
-    product_arguments p q = product_both (term_at table factor) (term_at table a) (term_at table id) is (narrow_of table entries opaques h factor p) (narrow_of table entries opaques h a q)
+    pub product_arguments : HasSum entries factor.0 → HasSum entries a.0 → All (IsKnownAll names) (arguments (term_at table id))
+    product_arguments p q = product_both (term_at table factor) (term_at table a) (term_at table id) is (known_of table entries opaques h factor p) (known_of table entries opaques h a q)
+
+    pub product_is_plain : is_opaque (term_at table id) ≡ false
+    product_is_plain = product_plain k (term_at table factor) (term_at table a) (term_at table id) is_k is
 
     pub product_read : (lin : Lin) → IsMultipleOf entries k a.0 lin → IsReadAs names (term_at table id) lin
     product_read lin s =

@@ -13,3 +13,10 @@ pub mod Combining
 pub mod Applying
 pub mod Comparing
 pub mod Walking
+pub mod Truths
+pub mod Sounding
+pub mod Ending
+pub mod Clausifying
+pub mod Defining
+pub mod Telling
+pub mod Asserting

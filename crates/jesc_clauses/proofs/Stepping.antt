@@ -1,5 +1,5 @@
 -- One more term is read.
-use Rattle.std.proofs.Common.{◌≡◌, ℕ, suc, ◌^◌, ℤ, pos, List, [], ◌∷◌, ◌++◌, length, map, Some, None, Option, slice_get, unwrap_or, if◌then◌else◌, true, refl, sym, ap, ◌∙◌, subst, arith, length-append, ◌⊎◌, inl, inr}
+use Rattle.std.proofs.Common.{◌≡◌, ℕ, suc, ◌^◌, ℤ, pos, List, [], ◌∷◌, ◌++◌, length, map, Some, None, Option, slice_get, unwrap_or, if◌then◌else◌, true, false, true≢false, refl, sym, ap, ◌∙◌, subst, arith, length-append, ◌⊎◌, inl, inr}
 use Rattle.std.proofs.lemmas.Option.{slice_get-map}
 use Rattle.std.proofs.lemmas.List.Elements.{All-nil, All-cons, All-head, All-tail, All-weaker, All-push}
 use Rattle.std.specs.Prelude.{All}
@@ -16,9 +16,9 @@ use Rattle.jesc_linear.specs.Forms.{IsNonzero}
 use Rattle.std.proofs.lemmas.Int.{ints}
 use Rattle.std.proofs.Math.IntN.{◌+ℤ◌, ◌*ℤ◌, zero-*ℤ, suc_ℤ-*ℤ}
 use Rattle.jesc_clauses.proofs.Merging.{IsUnder}
-use Rattle.jesc_clauses.specs.Sums.{IsNarrowAll, IsReadAs, AreReadAs, IsNamed, IsBelowAll, names_of, valued}
-use Rattle.jesc_clauses.specs.Readers.{Entries, IsSumAt, HasSum, HaveSums, AreSumsOf, IsPut, IsRead, IsReader, IsGrown, HasRead, term_of}
-use Rattle.jesc_clauses.proofs.Terms.{narrow_all}
+use Rattle.jesc_clauses.specs.Sums.{IsReadAs, AreReadAs, IsNamed, IsBelowAll, names_of, valued}
+use Rattle.jesc_clauses.specs.Readers.{Entries, IsSumAt, HasSum, HaveSums, AreSumsOf, IsPut, IsRead, IsReader, IsKnownAll, IsGrown, HasRead, term_of}
+use Rattle.jesc_clauses.proofs.Terms.{known_all, known_later}
 use Rattle.jesc_clauses.proofs.Reading.{AreDistinct, narrow_of_read, read_later, all_read_later}
 
 pub grown_all : (entries : Entries) (opaques : List Opaque) → IsGrown entries entries opaques opaques
@@ -61,7 +61,7 @@ all_opaque table entries opaques h i t e =
     let o = of_name table opaques i t e in
     ap is_opaque (sym o.1.1) ∙ (h.opaques_are.named i o.0 o.1.0).opaque
 
-module _ (table : List Term) (entries : Entries) (opaques : List Opaque) (h : IsReader table entries opaques) (id : TermId) (there : IsIn table id) (args : All IsNarrowAll (arguments (term_at table id))) where
+module _ (table : List Term) (entries : Entries) (opaques : List Opaque) (h : IsReader table entries opaques) (id : TermId) (there : IsIn table id) (plain : is_opaque (term_at table id) ≡ false) (args : All (IsKnownAll (names_of table opaques)) (arguments (term_at table id))) where
   -- a term that isn't opaque
   pub put_read : (lin : Lin) → IsReadAs (names_of table opaques) (term_at table id) lin → (later : Entries) → later ≡ entries ++ (id.0, lin) ∷ [] → HasRead table entries later opaques opaques id.0
   put_read lin read later is = subst (λ (es : Entries). HasRead table entries es opaques opaques id.0) (sym is) (record {
@@ -72,7 +72,7 @@ module _ (table : List Term) (entries : Entries) (opaques : List Opaque) (h : Is
         | inl q ↦ h.read k e q
         | inr q ↦ subst (IsRead table opaques) q.1 (record {
           there = there;
-          narrow = narrow_all (term_at table id) (narrow_of_read (names_of table opaques) (distinct table entries opaques h) (term_at table id) lin read) args;
+          known = known_all (names_of table opaques) (term_at table id) (narrow_of_read (names_of table opaques) (distinct table entries opaques h) (term_at table id) lin read) (λ o. absurd (true≢false (sym o ∙ plain))) args;
           read = read;
         })
       ];
@@ -105,11 +105,11 @@ module _ (table : List Term) (entries : Entries) (opaques : List Opaque) (h : Is
       All-cons (λ lin. IsBelowAll lin (length opaques)) x lins
       (subst (IsBelowAll x) (names_length table opaques) (h.read s.0.0 (i.0, x) s.0.1).read.there) (sums_below ids lins s.1)
 
-  pub sums_narrow : (ids : List TermId) → HaveSums entries ids → All IsNarrowAll (map (term_at table) ids)
-  sums_narrow [] s = All-nil IsNarrowAll
-  sums_narrow (i ∷ ids) s =
+  pub sums_known : (ids : List TermId) → HaveSums entries ids → All (IsKnownAll (names_of table opaques)) (map (term_at table) ids)
+  sums_known [] s = All-nil (IsKnownAll (names_of table opaques))
+  sums_known (i ∷ ids) s =
       let has = All-head (λ (id : TermId). HasSum entries id.0) i ids s in
-      All-cons IsNarrowAll (term_at table i) (map (term_at table) ids) (h.read has.1.0 (i.0, has.0) has.1.1).narrow (sums_narrow ids (All-tail (λ (id : TermId). HasSum entries id.0) i ids s))
+      All-cons (IsKnownAll (names_of table opaques)) (term_at table i) (map (term_at table) ids) (h.read has.1.0 (i.0, has.0) has.1.1).known (sums_known ids (All-tail (λ (id : TermId). HasSum entries id.0) i ids s))
 
 -- ---- an opaque term
 
@@ -207,6 +207,9 @@ module _ (table : List Term) (entries : Entries) (opaques : List Opaque) (h : Is
     smaller = sums_below table entries opaques h ids lins sums;
   }))
 
+  args_known : All (IsKnownAll new_names) (arguments t)
+  args_known = All-weaker (IsKnownAll names) (IsKnownAll new_names) (λ u k. known_later names new_names keep u k) (arguments t) (subst (All (IsKnownAll names)) (sym is_args) (sums_known table entries opaques h ids have))
+
   at_end : slice_get new_names (length opaques) ≡ Some t
   at_end = named_at table (opaques ++ o ∷ []) (length opaques) o (get_last opaques o)
 
@@ -214,10 +217,10 @@ module _ (table : List Term) (entries : Entries) (opaques : List Opaque) (h : Is
   own_read = one_read new_names (length opaques) t at_end opaque
 
   new_read : (k : ℕ) (e : ℕ × Lin) → (slice_get entries k ≡ Some e) ⊎ ((k ≡ length entries) × ((id.0, one_of (length opaques)) ≡ e)) → IsRead table (opaques ++ o ∷ []) e
-  new_read k e (inl s) = let r = h.read k e s in record { there = r.there; narrow = r.narrow; read = read_later names new_names keep (term_of table e.0) e.1 r.read }
+  new_read k e (inl s) = let r = h.read k e s in record { there = r.there; known = known_later names new_names keep (term_of table e.0) r.known; read = read_later names new_names keep (term_of table e.0) e.1 r.read }
   new_read k e (inr s) = subst (IsRead table (opaques ++ o ∷ [])) s.1 (record {
     there = there;
-    narrow = narrow_all t (narrow_of_read new_names are_apart t (one_of (length opaques)) own_read) (subst (All IsNarrowAll) (sym is_args) (sums_narrow table entries opaques h ids have));
+    known = known_all new_names t (narrow_of_read new_names are_apart t (one_of (length opaques)) own_read) (λ is. (length opaques, at_end)) args_known;
     read = own_read;
   })
 

@@ -1,12 +1,13 @@
 -- Terms are equal or not, and what stands in them.
-use Rattle.std.proofs.Common.{◌≡◌, ◌==◌, Bool, true, false, ℕ, zero, suc, ℤ, [], ◌∷◌, Some, slice_get, refl, sym, ap, subst, ◌∙◌, ◌⊎◌, inl, inr, true≢false}
+use Rattle.std.proofs.Common.{◌≡◌, ◌==◌, Bool, true, false, ℕ, zero, suc, ℤ, List, [], ◌∷◌, Some, slice_get, refl, sym, ap, subst, ◌∙◌, ◌⊎◌, inl, inr, true≢false}
 use Rattle.std.proofs.lemmas.Bool.{eqb-true, eq-eqb}
 use Rattle.std.proofs.lemmas.Bool.Decides.{Decides-int_eq}
-use Rattle.std.proofs.lemmas.List.Elements.{All-head, All-tail}
+use Rattle.std.proofs.lemmas.List.Elements.{All-head, All-tail, All-weaker}
 use Rattle.std.specs.Ordering.{int_eq}
 use Rattle.std.specs.Prelude.{All}
-use Rattle.jesc_logic.specs.Terms.{Term, number, constant, unary, binary, ternary}
-use Rattle.jesc_clauses.specs.Readings.{StandsIn, arguments}
+use Rattle.jesc_logic.specs.Terms.{Term, number, constant, unary, binary, ternary, Keeps}
+use Rattle.jesc_clauses.specs.Readings.{StandsIn, arguments, is_opaque}
+use Rattle.jesc_clauses.specs.Readers.{IsKnownAll, IsNamedAll}
 use Rattle.jesc_clauses.specs.Sums.{IsNarrow, IsNarrowAll}
 
 pub nat_or_not : (m n : ℕ) → (m ≡ n) ⊎ (m ≡ n → ⊥)
@@ -60,22 +61,36 @@ stands_below u (ternary s b c d) a (suc zero) e h = let p : c ≡ a = cc in inr 
 stands_below u (ternary s b c d) a (suc (suc zero)) e h = let p : d ≡ a = cc in inr (inr (inr (subst (λ (x : Term). StandsIn u x) (sym p) h)))
 stands_below u (ternary s b c d) a (suc (suc (suc k))) e h = cc
 
--- a term is narrow in all where it and its arguments are
-pub narrow_all : (t : Term) → IsNarrow t → All IsNarrowAll (arguments t) → IsNarrowAll t
-narrow_all (number n) h all u s = subst IsNarrow (sym s) h
-narrow_all (constant c) h all u s = subst IsNarrow (sym s) h
-narrow_all (unary c a) h all u s = elim s [ inl e ↦ subst IsNarrow (sym e) h | inr r ↦ All-head IsNarrowAll a [] all u r ]
-narrow_all (binary c a b) h all u s = elim s [
-  | inl e ↦ subst IsNarrow (sym e) h
-  | inr r ↦ elim r [ inl q ↦ All-head IsNarrowAll a (b ∷ []) all u q | inr q ↦ All-head IsNarrowAll b [] (All-tail IsNarrowAll a (b ∷ []) all) u q ]
-]
-narrow_all (ternary c a b d) h all u s = elim s [
-  | inl e ↦ subst IsNarrow (sym e) h
-  | inr r ↦ elim r [
-    | inl q ↦ All-head IsNarrowAll a (b ∷ d ∷ []) all u q
-    | inr q ↦ elim q [
-      | inl x ↦ All-head IsNarrowAll b (d ∷ []) (All-tail IsNarrowAll a (b ∷ d ∷ []) all) u x
-      | inr x ↦ All-head IsNarrowAll d [] (All-tail IsNarrowAll b (d ∷ []) (All-tail IsNarrowAll a (b ∷ d ∷ []) all)) u x
+-- what is so of the term and of all that stands in its arguments is so of all that stands in it
+module _ (P : Term → Type 0) where
+  abbrev pub InAll : Term → Type 0
+  InAll t = (u : Term) → StandsIn u t → P u
+
+  pub in_all : (t : Term) → P t → All InAll (arguments t) → InAll t
+  in_all (number n) h all u s = subst P (sym s) h
+  in_all (constant c) h all u s = subst P (sym s) h
+  in_all (unary c a) h all u s = elim s [ inl e ↦ subst P (sym e) h | inr r ↦ All-head InAll a [] all u r ]
+  in_all (binary c a b) h all u s = elim s [
+    | inl e ↦ subst P (sym e) h
+    | inr r ↦ elim r [ inl q ↦ All-head InAll a (b ∷ []) all u q | inr q ↦ All-head InAll b [] (All-tail InAll a (b ∷ []) all) u q ]
+  ]
+  in_all (ternary c a b d) h all u s = elim s [
+    | inl e ↦ subst P (sym e) h
+    | inr r ↦ elim r [
+      | inl q ↦ All-head InAll a (b ∷ d ∷ []) all u q
+      | inr q ↦ elim q [
+        | inl x ↦ All-head InAll b (d ∷ []) (All-tail InAll a (b ∷ d ∷ []) all) u x
+        | inr x ↦ All-head InAll d [] (All-tail InAll b (d ∷ []) (All-tail InAll a (b ∷ d ∷ []) all)) u x
+      ]
     ]
   ]
-]
+
+-- the same of the terms known
+pub known_all : (names : List Term) (t : Term) → IsNarrow t → (is_opaque t ≡ true → (i : ℕ) × (slice_get names i ≡ Some t)) → All (IsKnownAll names) (arguments t) → IsKnownAll names t
+known_all names t narrow named args = record {
+  narrow = in_all IsNarrow t narrow (All-weaker (IsKnownAll names) IsNarrowAll (λ u h. h.narrow) (arguments t) args);
+  named = in_all (λ u. is_opaque u ≡ true → (i : ℕ) × (slice_get names i ≡ Some u)) t named (All-weaker (IsKnownAll names) (IsNamedAll names) (λ u h. h.named) (arguments t) args);
+}
+
+pub known_later : (names more : List Term) → Keeps names more → (t : Term) → IsKnownAll names t → IsKnownAll more t
+known_later names more keep t h = record { narrow = h.narrow; named = λ u s o. let n = h.named u s o in (n.0, keep.keeps n.0 u n.1) }

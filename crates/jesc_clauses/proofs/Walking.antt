@@ -1,12 +1,14 @@
 -- Formulas whose terms are read, form by form.
-use Rattle.std.proofs.Common.{ℤ, List, ◌⊎◌, inl, inr}
+use Rattle.std.proofs.Common.{ℤ, List, [], ◌∷◌, ◌++◌, ◌⊎◌, inl, inr}
+use Rattle.std.proofs.lemmas.List.Elements.{All-weaker, All-push}
 use Rattle.jesc_logic.specs.declared.terms.TermId.{TermId}
 use Rattle.jesc_logic.specs.Terms.{Term}
 use Rattle.jesc_logic.specs.Claims.{Claim, truth, falsity, at_most, equal, negation, both, either}
 use Rattle.jesc_clauses.specs.declared.clause.Opaque.{Opaque}
 use Rattle.jesc_clauses.specs.Sums.{IsWideIn}
 use Rattle.jesc_clauses.specs.Readers.{Entries, IsReader, IsGrown, HasRead}
-use Rattle.jesc_clauses.specs.Formulas.{HasSums, HasReadIn, IsWideInClaim}
+use Rattle.jesc_clauses.specs.declared.reader.Reader.{Reader}
+use Rattle.jesc_clauses.specs.Formulas.{HasSums, HasReadIn, AreReadIn, IsWideInClaim}
 use Rattle.jesc_clauses.proofs.Stepping.{grown_all, grown_on, has_later}
 
 pub sums_later : (a b : Entries) (p q : List Opaque) → IsGrown a b p q → (f : Claim TermId) → HasSums a f → HasSums b f
@@ -36,6 +38,13 @@ as_equal table a b p q x y h = record { reader = h.reader; grown = h.grown; have
 
 pub as_negation : (table : List Term) (a b : Entries) (p q : List Opaque) (f : Claim TermId) → HasReadIn table a b p q f → HasReadIn table a b p q (negation f)
 as_negation table a b p q f h = record { reader = h.reader; grown = h.grown; have = h.have }
+
+-- one more formula of a list
+pub one_more_read_in : (table : List Term) (fs : List (Claim TermId)) (f : Claim TermId) (r s : Reader) → AreReadIn table fs r → HasReadIn table r.sums s.sums r.opaques s.opaques f → AreReadIn table (fs ++ f ∷ []) s
+one_more_read_in table fs f r s h k = record {
+  reader = k.reader;
+  have = All-push (HasSums s.sums) fs f (All-weaker (HasSums r.sums) (HasSums s.sums) (sums_later r.sums s.sums r.opaques s.opaques k.grown) fs h.have) k.have;
+}
 
 -- ---- numbers that are too large
 

@@ -6,3 +6,5 @@ pub mod Sums
 pub mod Readers
 pub mod Comparisons
 pub mod Formulas
+pub mod Clausified
+pub mod Builders

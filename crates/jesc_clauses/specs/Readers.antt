@@ -1,11 +1,12 @@
 -- Terms that have been read as sums. Words that only contracts inside the crate use.
-use Rattle.std.specs.Prelude.{◌≡◌, ℕ, ◌<◌, ◌≤◌, ◌^◌, pos, List, [], ◌∷◌, ◌++◌, ◌⊎◌, ℤ, ◌+ℤ◌, ◌*ℤ◌, All, length, Some, slice_get}
+use Rattle.std.specs.Prelude.{◌≡◌, ℕ, ◌<◌, ◌≤◌, ◌^◌, pos, List, [], ◌∷◌, ◌++◌, ◌⊎◌, ℤ, ◌+ℤ◌, ◌*ℤ◌, All, length, true, Some, slice_get}
 use Rattle.jesc_logic.specs.declared.terms.TermId.{TermId}
 use Rattle.jesc_logic.specs.Terms.{Term, binary, term_at, AreApart}
 use Rattle.jesc_clauses.specs.declared.lin.Lin.{Lin}
 use Rattle.jesc_clauses.specs.declared.clause.Opaque.{Opaque}
 use Rattle.jesc_clauses.specs.Countermodels.{lin_value}
 use Rattle.jesc_linear.specs.Forms.{value}
+use Rattle.jesc_clauses.specs.Readings.{StandsIn, is_opaque}
 use Rattle.jesc_clauses.specs.Merges.{only_at}
 use Rattle.jesc_clauses.specs.Sums.{IsLin, IsMade, IsBelowAll, IsOneOf, IsTooWide, AreOpaques, IsReadAs, IsNarrowAll, names_of}
 
@@ -24,10 +25,19 @@ HasSum entries id = (lin : Lin) × IsSumAt entries id lin
 abbrev pub term_of : List Term → ℕ → Term
 term_of table id = term_at table (record { 0 = id })
 
--- the sum is that of the entry's term, in which nothing is too large
+-- each opaque term that stands in the term is among these
+abbrev pub IsNamedAll : List Term → Term → Type 0
+IsNamedAll names t = (u : Term) → StandsIn u t → is_opaque u ≡ true → (i : ℕ) × (slice_get names i ≡ Some u)
+
+-- in the term nothing is too large, and no opaque term is without a number
+pub record IsKnownAll (names : List Term) (t : Term) : Type 0 where
+  pub narrow : IsNarrowAll t
+  pub named : IsNamedAll names t
+
+-- the sum is that of the entry's term, in which nothing is too large and no opaque term without a number
 pub record IsRead (table : List Term) (opaques : List Opaque) (entry : ℕ × Lin) : Type 0 where
   pub there : entry.0 < length table
-  pub narrow : IsNarrowAll (term_of table entry.0)
+  pub known : IsKnownAll (names_of table opaques) (term_of table entry.0)
   pub read : IsReadAs (names_of table opaques) (term_of table entry.0) entry.1
 
 pub record IsReader (table : List Term) (entries : Entries) (opaques : List Opaque) : Type 0 where

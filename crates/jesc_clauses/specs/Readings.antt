@@ -85,7 +85,7 @@ StandsInClaim t (both f g) = StandsInClaim t f ⊎ StandsInClaim t g
 StandsInClaim t (either f g) = StandsInClaim t f ⊎ StandsInClaim t g
 
 -- the two sides of a comparison in the formula
-abbrev pub Compares : Term → Term → Claim Term → Type 0
+abbrev pub Compares : {T : Type 0} → T → T → Claim T → Type 0
 Compares a b truth = ⊥
 Compares a b falsity = ⊥
 Compares a b (at_most c d) = (a ≡ c) × (b ≡ d)

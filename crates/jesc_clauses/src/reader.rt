@@ -1,11 +1,11 @@
 //! Terms read as sums of numbered opaque terms.
 
-ghost use Rattle.std.specs.Prelude.{◌≡◌, ◌≤◌, ◌^◌, unsigned_abs, true, [], ◌∷◌, ◌++◌, IfOk, OnOk, All, map, length};
+ghost use Rattle.std.specs.Prelude.{◌≡◌, ◌≤◌, ◌^◌, unsigned_abs, true, false, [], ◌∷◌, ◌++◌, IfOk, OnOk, All, map, length};
 ghost use Rattle.jesc_logic.specs.Terms.{term_at, IsIn, applied, number, binary};
 ghost use Rattle.jesc_clauses.specs.Merges.{OnWide};
 ghost use Rattle.jesc_clauses.specs.Readings.{is_opaque, arguments, HaveSymbol};
-ghost use Rattle.jesc_clauses.specs.Sums.{IsReadAs, IsNarrowAll, IsWideIn, names_of};
-ghost use Rattle.jesc_clauses.specs.Readers.{HaveSums, AreSumsOf, HasSum, HasRead, IsPut, IsReader, AreLins, IsSumOf, IsWideSumOf, IsProductOf, IsMultipleOf, IsWideMultipleOf};
+ghost use Rattle.jesc_clauses.specs.Sums.{IsReadAs, IsWideIn, names_of};
+ghost use Rattle.jesc_clauses.specs.Readers.{HaveSums, AreSumsOf, HasSum, HasRead, IsKnownAll, IsPut, IsReader, AreLins, IsSumOf, IsWideSumOf, IsProductOf, IsMultipleOf, IsWideMultipleOf};
 
 use crate::clause::Opaque;
 use crate::error::ClauseError;
@@ -39,7 +39,8 @@ impl Reader {
     fn put(&mut self, terms: &Terms, id: TermId, lin: Lin) -> Result<(), ClauseError>
         requires reader { IsReader terms.now self.old.sums self.old.opaques }
         requires there { IsIn terms.now id }
-        requires args { All IsNarrowAll (arguments (term_at terms.now id)) }
+        requires plain { is_opaque (term_at terms.now id) ≡ false }
+        requires args { All (IsKnownAll (names_of terms.now self.old.opaques)) (arguments (term_at terms.now id)) }
         requires read { IsReadAs (names_of terms.now self.old.opaques) (term_at terms.now id) lin }
         ensures read { OnOk result (HasRead terms.now self.old.sums self.new.sums self.old.opaques self.new.opaques id.0) }
         ensures wide { OnWide (λ n. ⊥) result }

@@ -6,7 +6,7 @@ use Rattle.jesc_clauses.specs.Merges.{OnWide}
 use Rattle.jesc_clauses.specs.Readers.{IsMultipleOf, IsWideMultipleOf}
 use Rattle.jesc_clauses.specs.declared.lin.Lin.{Lin}
 use Rattle.jesc_clauses.proofs.Wide.{handed}
-use Rattle.jesc_clauses.proofs.Combining.{lins, factor_small, product_arguments, product_read, product_wide}
+use Rattle.jesc_clauses.proofs.Combining.{lins, factor_small, product_arguments, product_is_plain, product_read, product_wide}
 use Rattle.jesc_clauses.proofs.reader.Reader.product.Goals as goal
 
 pub product_of-requires-clause-lins : goal.product_of-requires-clause-lins
@@ -14,6 +14,9 @@ product_of-requires-clause-lins c = lins c.args.terms.now c.args.self.now.sums c
 
 pub product_of-requires-clause-k : goal.product_of-requires-clause-k
 product_of-requires-clause-k c = subst (λ (k : ℤ). unsigned_abs k ≤ 2 ^ 94) (sym (to_z-of_z w128 c.args.k c.ranges.k)) (factor_small c.args.terms.now c.args.self.now.sums c.args.self.now.opaques c.requires.reader c.args.factor c.args.a c.args.id c.args.k c.requires.k c.requires.term c.requires.factor)
+
+pub put-requires-clause-plain : goal.put-requires-clause-plain
+put-requires-clause-plain c = product_is_plain c.args.terms.now c.args.self.now.sums c.args.self.now.opaques c.requires.reader c.args.factor c.args.a c.args.id c.args.k c.requires.k c.requires.term
 
 pub put-requires-clause-args : goal.put-requires-clause-args
 put-requires-clause-args c = product_arguments c.args.terms.now c.args.self.now.sums c.args.self.now.opaques c.requires.reader c.args.factor c.args.a c.args.id c.args.k c.requires.k c.requires.term c.requires.factor c.requires.a

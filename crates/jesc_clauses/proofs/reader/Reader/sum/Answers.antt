@@ -1,10 +1,13 @@
 use Rattle.jesc_clauses.specs.declared.lin.Lin.{Lin}
 use Rattle.jesc_clauses.proofs.Wide.{handed}
-use Rattle.jesc_clauses.proofs.Combining.{lins, sum_arguments, sum_read, sum_wide}
+use Rattle.jesc_clauses.proofs.Combining.{lins, sum_arguments, sum_is_plain, sum_read, sum_wide}
 use Rattle.jesc_clauses.proofs.reader.Reader.sum.Goals as goal
 
 pub sum_of-requires-clause-lins : goal.sum_of-requires-clause-lins
 sum_of-requires-clause-lins c = lins c.args.terms.now c.args.self.now.sums c.args.self.now.opaques c.requires.reader
+
+pub put-requires-clause-plain : goal.put-requires-clause-plain
+put-requires-clause-plain c = sum_is_plain c.args.terms.now c.args.self.now.sums c.args.self.now.opaques c.requires.reader c.args.a c.args.b c.args.id c.requires.term
 
 pub put-requires-clause-args : goal.put-requires-clause-args
 put-requires-clause-args c = sum_arguments c.args.terms.now c.args.self.now.sums c.args.self.now.opaques c.requires.reader c.args.a c.args.b c.args.id c.requires.term c.requires.a c.requires.b
