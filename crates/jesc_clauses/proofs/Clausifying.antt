@@ -1,5 +1,5 @@
 -- Formulas as clauses: what the clauses say of the formulas.
-use Rattle.std.proofs.Common.{◌≡◌, true, ℕ, zero, suc, ◌+◌, ◌*◌, ◌<◌, ◌≤◌, ◌^◌, ℤ, pos, List, [], ◌∷◌, ◌++◌, length, map, sum, Some, None, Option, slice_get, unwrap_or, refl, sym, ap, ◌∙◌, subst, arith, ◌⊎◌, inl, inr, IsTrue}
+use Rattle.std.proofs.Common.{◌≡◌, true, ℕ, zero, suc, ◌+◌, ◌*◌, ◌<◌, ◌≤◌, ◌^◌, ℤ, pos, List, [], ◌∷◌, ◌++◌, length, map, sum, Some, None, Option, slice_get, unwrap_or, refl, sym, ap, ◌∙◌, subst, arith, length-append, ◌⊎◌, inl, inr, IsTrue}
 use Rattle.std.proofs.lemmas.Option.{slice_get-map, get_or_from_slice_get}
 use Rattle.std.proofs.lemmas.List.Elements.{All-nil, All-cons, All-head, All-tail}
 use Rattle.std.proofs.lemmas.Int.{ints}
@@ -19,16 +19,18 @@ use Rattle.jesc_clauses.specs.declared.clause.Clauses.{Clauses}
 use Rattle.jesc_clauses.specs.declared.clause.Opaque.{Opaque}
 use Rattle.jesc_clauses.specs.declared.atom.Atom.{Atom}
 use Rattle.jesc_clauses.specs.declared.lin.Lin.{Lin}
-use Rattle.jesc_clauses.specs.Builders.{AreSums, AreTrue, AllHold, IsAsserted, IsBuilt, IsDefined, IsFree, IsMet, IsSameBelow, IsWideAt, IsWideOneAt, IsWorth, count_of}
-use Rattle.jesc_clauses.specs.Clausified.{Agree, IsAmong, IsClausified, IsLiteral, IsScopedAtom, IsWideAmong, IsWideBetween, most_for_a_node, size_of}
+use Rattle.jesc_clauses.specs.Builders.{AreNarrowAt, AreSums, AreTrue, AllHold, IsAsserted, IsBuilt, IsDefined, IsFree, IsMet, IsSameBelow, IsWideAt, IsWideOneAt, IsWorth, count_of}
+use Rattle.jesc_clauses.specs.Clausified.{Agree, IsAmong, IsClausified, IsLiteral, IsScopedAtom, IsWideAmong, IsWideBetween, IsWideOver, most_for_a_node, size_of}
 use Rattle.jesc_clauses.specs.Countermodels.{AreAlike, IsCountermodel, is_true_clause, lin_value}
 use Rattle.jesc_clauses.specs.Formulas.{HasSums}
 use Rattle.jesc_clauses.specs.Readers.{Entries, HasSum, IsReader, IsSumAt, term_of}
 use Rattle.jesc_clauses.specs.Readings.{Compares, HaveSymbol, IsModel, StandsIn, StandsInClaim, Values, arguments, is_opaque, reading}
-use Rattle.jesc_clauses.specs.Sums.{AreOpaques, AreReadAs, IsBelowAll, IsNarrow, names_of, valued}
+use Rattle.jesc_clauses.specs.Sums.{AreOpaques, AreReadAs, IsReadAs, IsBelowAll, IsNarrow, names_of, valued}
 use Rattle.jesc_clauses.proofs.Ending.{all_opaques}
+use Rattle.jesc_clauses.proofs.OneForm.{one_sum}
+use Rattle.jesc_clauses.proofs.Reading.{read_later}
 use Rattle.jesc_clauses.proofs.Sounding.{values_of}
-use Rattle.jesc_clauses.proofs.Stepping.{named_at, names_length, of_name}
+use Rattle.jesc_clauses.proofs.Stepping.{all_opaque, distinct, named_at, names_length, of_name}
 use Rattle.jesc_clauses.proofs.Truths.{lin_same}
 
 -- ---- lists
@@ -98,6 +100,32 @@ over_compares at a b (both f g) (inr h) = inr (over_compares at a b g h)
 over_compares at a b (either f g) (inl h) = inl (over_compares at a b f h)
 over_compares at a b (either f g) (inr h) = inr (over_compares at a b g h)
 
+-- what the formula compares was read
+record ComparesRead (table : List Term) (sums : Entries) (a b : Term) (f : Claim TermId) : Type 0 where
+  first : TermId
+  second : TermId
+  compares : Compares first second f
+  first_is : a ≡ term_at table first
+  second_is : b ≡ term_at table second
+  has_first : HasSum sums first.0
+  has_second : HasSum sums second.0
+
+module _ (table : List Term) (sums : Entries) (a b : Term) where
+  compares_more : (f g : Claim TermId) → ((x y : TermId) → Compares x y f → Compares x y g) → ComparesRead table sums a b f → ComparesRead table sums a b g
+  compares_more f g more r = record { first = r.first; second = r.second; compares = more r.first r.second r.compares; first_is = r.first_is; second_is = r.second_is; has_first = r.has_first; has_second = r.has_second }
+
+  compares_read : (f : Claim TermId) → HasSums sums f → Compares a b (over (term_at table) f) → ComparesRead table sums a b f
+  compares_read truth have h = absurd h
+  compares_read falsity have h = absurd h
+  compares_read (at_most c d) have h = record { first = c; second = d; compares = (refl, refl); first_is = h.0; second_is = h.1; has_first = have.0; has_second = have.1 }
+  compares_read (equal c d) have (inl h) = record { first = c; second = d; compares = inl (refl, refl); first_is = h.0; second_is = h.1; has_first = have.0; has_second = have.1 }
+  compares_read (equal c d) have (inr h) = record { first = d; second = c; compares = inr (refl, refl); first_is = h.0; second_is = h.1; has_first = have.1; has_second = have.0 }
+  compares_read (negation f) have h = compares_more f (negation f) (λ x y p. p) (compares_read f have h)
+  compares_read (both f g) have (inl h) = compares_more f (both f g) (λ x y p. inl p) (compares_read f have.0 h)
+  compares_read (both f g) have (inr h) = compares_more g (both f g) (λ x y p. inr p) (compares_read g have.1 h)
+  compares_read (either f g) have (inl h) = compares_more f (either f g) (λ x y p. inl p) (compares_read f have.0 h)
+  compares_read (either f g) have (inr h) = compares_more g (either f g) (λ x y p. inr p) (compares_read g have.1 h)
+
 -- the term stands in one that was read
 record StandsRead (table : List Term) (sums : Entries) (t : Term) : Type 0 where
   id : TermId
@@ -139,7 +167,11 @@ module _ (table : List Term) (sums : Entries) (read : List Opaque) (h : IsReader
   names_below lin below = subst (IsBelowAll lin) (names_length table read) below
 
   pub sums_are : AreSums (length read) sums
-  sums_are id lin (k, e) = let r = (h.read k (id, lin) e).read in (r.bounded, names_below lin r.there)
+  sums_are = record {
+    each = λ id lin s. let r = (h.read s.0 (id, lin) s.1).read in (r.bounded, names_below lin r.there);
+    one = λ id x y s u.
+        one_sum (names_of table read) (distinct table sums read h) (all_opaque table sums read h) (term_of table id) x y (h.read s.0 (id, x) s.1).read (h.read u.0 (id, y) u.1).read;
+  }
 
   abbrev none : Opaque
   none = record { id = record { 0 = 0 }; symbol = 0; args = [] }
@@ -173,17 +205,20 @@ module _ (table : List Term) (sums : Entries) (read : List Opaque) (h : IsReader
   -- ---- numbers that are too large
 
   wide_between : (f : Claim TermId) (n : ℤ) → IsWideAt sums f n → IsWideBetween (over (term_at table) f) n
-  wide_between f n wide = record {
-    names = names_of table read;
-    a = term_at table wide.a;
-    b = term_at table wide.b;
-    x = wide.x;
-    y = wide.y;
-    compares = over_compares (term_at table) wide.a wide.b f wide.compares;
-    read_a = (h.read wide.sum_a.0 (wide.a.0, wide.x) wide.sum_a.1).read;
-    read_b = (h.read wide.sum_b.0 (wide.b.0, wide.y) wide.sum_b.1).read;
-    wide = wide.wide;
-  }
+  wide_between f n wide = (
+    names_of table read,
+    record { opaque = all_opaque table sums read h; apart = distinct table sums read h },
+    record {
+      a = term_at table wide.a;
+      b = term_at table wide.b;
+      x = wide.x;
+      y = wide.y;
+      compares = over_compares (term_at table) wide.a wide.b f wide.compares;
+      read_a = (h.read wide.sum_a.0 (wide.a.0, wide.x) wide.sum_a.1).read;
+      read_b = (h.read wide.sum_b.0 (wide.b.0, wide.y) wide.sum_b.1).read;
+      wide = wide.wide;
+    },
+  )
 
   pub wide_read : (formulas : List Formula) (n : ℤ) → IsWideOneAt sums (map shape formulas) n → IsWideAmong (map (claim_of table) formulas) n
   wide_read formulas n (k, f, e, wide) =
@@ -214,7 +249,7 @@ same_number i j e = let p : pos 0 +ℤ pos i ≡ pos 0 +ℤ pos j = cc in omega 
 
 module _ (table later : List Term) (kept : Keeps table later) (formulas : List Formula) (sums : Entries) (read : List Opaque) (h : IsReader table sums read)
     (have : All (HasSums sums) (map shape formulas)) (symbol : ℕ) (free : IsFree read symbol) (b c : Builder) (b_symbol : b.symbol ≡ symbol) (b_first : b.first ≡ length read)
-    (b_opaques : b.opaques ≡ read) (b_atoms : b.atoms ≡ []) (b_clauses : b.clauses ≡ []) (a : IsAsserted sums later b c (map shape formulas)) where
+    (b_opaques : b.opaques ≡ read) (b_atoms : b.atoms ≡ []) (b_clauses : b.clauses ≡ []) (a : IsAsserted sums later b c (map shape formulas)) (narrow : All (AreNarrowAt sums) (map shape formulas)) where
   abbrev claims : List (Claim Term)
   claims = map (claim_of table) formulas
 
@@ -332,11 +367,54 @@ module _ (table later : List Term) (kept : Keeps table later) (formulas : List F
       let k = counts table formulas in
       subst (λ (n : ℕ). size_of c.atoms c.clauses ≤ most_for_a_node * n) k (omega (arith, e, a.counted))
 
+  -- ---- no number of an atom is too large
+
+  abbrev names_later : List Term
+  names_later = names_of later c.opaques
+
+  later_keeps : Keeps names names_later
+  later_keeps = record {
+    longer = omega (arith, names_length table read, names_length later c.opaques, ap (λ (os : List Opaque). length os) is_all, length-append read a.added_opaques);
+    keeps = names_kept;
+  }
+
+  later_opaque : (i : ℕ) (t : Term) → slice_get names_later i ≡ Some t → is_opaque t ≡ true
+  later_opaque i t e = let o = of_name later c.opaques i t e in ap is_opaque (sym o.1.1) ∙ (opaques.named i o.0 o.1.0).opaque
+
+  -- a sum of a term that was read, over the terms at the end, is the one that was read
+  read_before : (id : TermId) → HasSum sums id.0 → (t : Term) (lin : Lin) → t ≡ term_at table id → IsReadAs names_later t lin → IsSumAt sums id.0 lin
+  read_before id has t lin is r =
+      let first = read_later names names_later later_keeps (term_at table id) has.0 (h.read has.1.0 (id.0, has.0) has.1.1).read in
+      let same = one_sum names_later opaques.apart later_opaque (term_at table id) has.0 lin first (subst (λ (u : Term). IsReadAs names_later u lin) is r) in
+      subst (IsSumAt sums id.0) same has.1
+
+  wide_before : (f : Claim TermId) (n : ℤ) → HasSums sums f → IsWideOver names_later (over (term_at table) f) n → IsWideAt sums f n
+  wide_before f n has w =
+      let r = compares_read table sums w.a w.b f has w.compares in
+      record {
+        a = r.first;
+        b = r.second;
+        compares = r.compares;
+        x = w.x;
+        y = w.y;
+        sum_a = read_before r.first r.has_first w.a w.x r.first_is w.read_a;
+        sum_b = read_before r.second r.has_second w.b w.y r.second_is w.read_b;
+        wide = w.wide;
+      }
+
+  short : (k : ℕ) (f : Claim Term) (n : ℤ) → slice_get claims k ≡ Some f → IsWideOver names_later f n → ⊥
+  short k f n e w =
+      let g = of_mapped (claim_of table) formulas k f e in
+      let at = mapped_at shape formulas k g.0 g.1.0 in
+      all_at (AreNarrowAt sums) (map shape formulas) k (shape g.0) at narrow n
+      (wide_before (shape g.0) n (all_at (HasSums sums) (map shape formulas) k (shape g.0) at have) (subst (λ (x : Claim Term). IsWideOver names_later x n) (sym g.1.1) w))
+
   pub clausified : IsClausified later claims result
   clausified = record {
     opaques = opaques;
     scoped = a.built.scoped;
     narrow = λ t s. narrow_in table sums read h t (among_is t s);
+    short = short;
     counted = counted;
     sound = sound;
     complete = complete;

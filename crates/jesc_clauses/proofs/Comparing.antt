@@ -78,7 +78,7 @@ wide_part atom k term c e p s = record { wide = c; is = capped_small c s; how = 
 no_more : (d n : ℕ) → 0 < d → n ≤ d * n
 no_more d n p = grind arith
 
-size_times : (d c : ℤ) → pos 0 <ℤ d → unsigned_abs c ≤ unsigned_abs (d *ℤ c)
+pub size_times : (d c : ℤ) → pos 0 <ℤ d → unsigned_abs c ≤ unsigned_abs (d *ℤ c)
 size_times d c p =
     let k = no_more (unsigned_abs d) (unsigned_abs c) (positive_size d p) in
     subst (λ (n : ℕ). unsigned_abs c ≤ n) (sym (unsigned_abs-mul d c)) k

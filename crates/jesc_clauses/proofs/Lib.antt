@@ -20,3 +20,5 @@ pub mod Clausifying
 pub mod Defining
 pub mod Telling
 pub mod Asserting
+pub mod OneForm
+pub mod OneNormal

@@ -38,7 +38,7 @@ divides_scaled d e [] h = tt
 divides_scaled d e (part ∷ f) h =
     (subst (λ (n : ℕ). (unsigned_abs d * e) ∣ n) (sym (unsigned_abs-mul d part.0)) (mul-dvd-mul_left e {c = unsigned_abs part.0} (unsigned_abs d) h.0), divides_scaled d e f h.1)
 
-positive_abs : (d : ℤ) → pos 0 <ℤ d → 0 < unsigned_abs d
+pub positive_abs : (d : ℤ) → pos 0 <ℤ d → 0 < unsigned_abs d
 positive_abs (pos d) p = omega (arith, ints)
 positive_abs (negsuc d) p = omega arith
 

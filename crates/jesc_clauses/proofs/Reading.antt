@@ -121,10 +121,10 @@ narrow_of_read names distinct t lin h = record {
 
 -- ---- coefficients that are too large
 
-only_of : (x : Term) → Values
+pub only_of : (x : Term) → Values
 only_of x t = elim (same_or_not t x) [ inl e ↦ pos 1 | inr n ↦ pos 0 ]
 
-is_only : (x : Term) → IsOnly x (only_of x)
+pub is_only : (x : Term) → IsOnly x (only_of x)
 unfolding only_of
 is_only x = record {
   one = elim (same_or_not x x) as (λ s. elim s [ inl e ↦ pos 1 | inr n ↦ pos 0 ] ≡ pos 1) [ inl e ↦ refl | inr n ↦ absurd (n refl) ];

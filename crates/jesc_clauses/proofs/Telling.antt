@@ -1,5 +1,5 @@
 -- What formulas come to, form by form.
-use Rattle.std.proofs.Common.{◌≡◌, ℕ, suc, ◌+◌, ◌*◌, ◌<◌, ◌≤◌, ◌^◌, ℤ, pos, List, [], ◌∷◌, ◌++◌, length, Bool, true, false, not, ◌&&◌, ◌||◌, FitsSigned, to_z, of_z, refl, sym, ap, ◌∙◌, subst, arith, length-append, inr}
+use Rattle.std.proofs.Common.{◌≡◌, ℕ, suc, ◌+◌, ◌*◌, ◌<◌, ◌≤◌, ◌^◌, ℤ, pos, List, [], ◌∷◌, ◌++◌, length, Bool, true, false, not, ◌&&◌, ◌||◌, FitsSigned, to_z, of_z, refl, sym, ap, ◌∙◌, subst, arith, length-append, ◌⊎◌, inl, inr}
 use Rattle.std.proofs.lemmas.List.{append-nil}
 use Rattle.std.proofs.lemmas.Int.{ints, to_z-of_z, fits_signed_from_abs}
 use Rattle.std.proofs.Math.IntN.{◌-ℤ◌, ◌*ℤ◌, neg_ℤ}
@@ -27,12 +27,14 @@ use Rattle.jesc_clauses.specs.declared.builder.Truth.{Truth}
 use Rattle.jesc_clauses.specs.declared.builder.Truth.TheVariants.{Constant, Literal}
 use Rattle.jesc_clauses.specs.Countermodels.{is_true_literal, is_true_clause, is_met_some, lin_value}
 use Rattle.jesc_clauses.specs.Normals.{scaled, is_met, is_so, IsNormalOf}
-use Rattle.jesc_clauses.specs.Comparisons.{IsComparison, IsNarrowNormal}
+use Rattle.jesc_clauses.specs.Comparisons.{IsComparison, IsNarrowNormal, IsWideComparison}
 use Rattle.jesc_clauses.specs.Clausified.{IsLiteral, IsScopedAtom}
+use Rattle.jesc_clauses.specs.Readings.{Compares}
 use Rattle.jesc_clauses.specs.Sums.{IsBelowAll}
 use Rattle.jesc_clauses.specs.Readers.{Entries, IsSumAt}
-use Rattle.jesc_clauses.specs.Builders.{IsTruth, is_true, turned, AreSums, IsWorth, count_of, IsBuilt, IsExtended, IsAtomPut, IsTold, IsBoth, Tells, IsWideAt}
+use Rattle.jesc_clauses.specs.Builders.{IsTruth, is_true, turned, AreSums, IsWorth, count_of, IsBuilt, IsExtended, IsAtomPut, IsTold, IsBoth, Tells, IsWideAt, AreNarrowAt}
 use Rattle.jesc_clauses.proofs.Merging.{IsUnder}
+use Rattle.jesc_clauses.proofs.OneNormal.{never_wide}
 use Rattle.jesc_clauses.proofs.Truths.{truth_kept, truth_turned, truth_longer, truth_is_turned, extended_all, extended_on, met_before}
 
 -- ---- steps
@@ -219,7 +221,7 @@ module _ (table : List Term) (sums : Entries) (b : Builder) (built : IsBuilt tab
   below_count lin all = All-weaker (IsUnder b.first) (IsUnder (count_of b)) (λ part p. omega (arith, p, built.read)) lin.form all
 
   scoped_of : IsScopedNormal (count_of b) normal
-  scoped_of = scoped_comparison (count_of b) x y normal (below_count x (are s.0 x at_x).1) (below_count y (are t.0 y at_y).1) comparison narrow
+  scoped_of = scoped_comparison (count_of b) x y normal (below_count x (are.each s.0 x at_x).1) (below_count y (are.each t.0 y at_y).1) comparison narrow
 
   compares : (v : ℕ → ℤ) (g : TermId → ℤ) → IsWorth sums v g → is_so v normal ≡ int_le (g s) (g t)
   compares v g worth = exact v ∙ (λ i. int_le (sym (worth s x at_x) i) (sym (worth t y at_y) i))
@@ -302,3 +304,31 @@ not_is f g e = shape_node f ∙ ap node_shape e ∙ ap node_shape (sym (rolls-No
 
 pub wide_other : (sums : Entries) (x y : TermId) (n : ℤ) → IsWideAt sums (at_most y x) n → IsWideAt sums (equal x y) n
 wide_other sums x y n h = record { a = h.a; b = h.b; compares = inr h.compares; x = h.x; y = h.y; sum_a = h.sum_a; sum_b = h.sum_b; wide = h.wide }
+
+pub narrow_comparison : (n : ℕ) (sums : Entries) → AreSums n sums → (s t : TermId) (x y : Lin) → IsSumAt sums s.0 x → IsSumAt sums t.0 y → (normal : Normal) → IsComparison x y normal → IsNarrowNormal normal → AreNarrowAt sums (at_most s t)
+narrow_comparison n sums are s t x y at_x at_y normal comparison narrow z w =
+    let e : w.x ≡ x = are.one s.0 w.x x (subst (λ (a : TermId). IsSumAt sums a.0 w.x) w.compares.0 w.sum_a) at_x in
+    let k : w.y ≡ y = are.one t.0 w.y y (subst (λ (b : TermId). IsSumAt sums b.0 w.y) w.compares.1 w.sum_b) at_y in
+    never_wide x y normal comparison narrow z (subst (λ (u : Lin). IsWideComparison u y z) e (subst (λ (u : Lin). IsWideComparison w.x u z) k w.wide))
+
+-- ---- no number that is too large
+
+module _ (sums : Entries) where
+  -- what f compares, g or h compares
+  narrow_parts : (f g h : Claim TermId) → ((a b : TermId) → Compares a b f → Compares a b g ⊎ Compares a b h) → AreNarrowAt sums g → AreNarrowAt sums h → AreNarrowAt sums f
+  narrow_parts f g h parts p q n w = elim (parts w.a w.b w.compares) [
+    | inl c ↦ p n (record { a = w.a; b = w.b; compares = c; x = w.x; y = w.y; sum_a = w.sum_a; sum_b = w.sum_b; wide = w.wide })
+    | inr c ↦ q n (record { a = w.a; b = w.b; compares = c; x = w.x; y = w.y; sum_a = w.sum_a; sum_b = w.sum_b; wide = w.wide })
+  ]
+
+  pub narrow_equal : (c : Claim TermId) (x y : TermId) → c ≡ equal x y → AreNarrowAt sums (at_most x y) → AreNarrowAt sums (at_most y x) → AreNarrowAt sums c
+  narrow_equal c x y e p q = subst (AreNarrowAt sums) (sym e) (narrow_parts (equal x y) (at_most x y) (at_most y x) (λ a b h. elim h [ inl k ↦ inl k | inr k ↦ inr k ]) p q)
+
+  pub narrow_both : (c f g : Claim TermId) → c ≡ both f g → AreNarrowAt sums f → AreNarrowAt sums g → AreNarrowAt sums c
+  narrow_both c f g e p q = subst (AreNarrowAt sums) (sym e) (narrow_parts (both f g) f g (λ a b h. h) p q)
+
+  pub narrow_either : (c f g : Claim TermId) → c ≡ either f g → AreNarrowAt sums f → AreNarrowAt sums g → AreNarrowAt sums c
+  narrow_either c f g e p q = subst (AreNarrowAt sums) (sym e) (narrow_parts (either f g) f g (λ a b h. h) p q)
+
+  pub narrow_negation : (c f : Claim TermId) → c ≡ negation f → AreNarrowAt sums f → AreNarrowAt sums c
+  narrow_negation c f e p = subst (AreNarrowAt sums) (sym e) (narrow_parts (negation f) f f (λ a b h. inl h) p p)

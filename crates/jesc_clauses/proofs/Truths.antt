@@ -218,7 +218,7 @@ met_extended table b c built h v met =
     )
 
 pub worth_same : (n : ℕ) (sums : Entries) → AreSums n sums → (u v : ℕ → ℤ) → IsSameBelow n u v → (g : TermId → ℤ) → IsWorth sums v g → IsWorth sums u g
-worth_same n sums are u v same g h id lin at = h id lin at ∙ sym (lin_same n u v same lin (are id.0 lin at).1)
+worth_same n sums are u v same g h id lin at = h id lin at ∙ sym (lin_same n u v same lin (are.each id.0 lin at).1)
 
 pub built_later : (old new : List Term) → Keeps old new → (b : Builder) → IsBuilt old b → IsBuilt new b
 built_later old new k b h = record {

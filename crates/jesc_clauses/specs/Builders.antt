@@ -44,9 +44,10 @@ IsSameBelow n u v = (i : ℕ) → i < n → u i ≡ v i
 
 -- ---- sums of terms
 
--- each sum is in bounds, over terms by number below n
-abbrev pub AreSums : ℕ → Entries → Type 0
-AreSums n sums = (id : ℕ) (lin : Lin) → IsSumAt sums id lin → IsLin lin × IsBelowAll lin n
+-- each sum is in bounds, over terms by number below n, and no term has two
+pub record AreSums (n : ℕ) (sums : Entries) : Type 0 where
+  pub each : (id : ℕ) (lin : Lin) → IsSumAt sums id lin → IsLin lin × IsBelowAll lin n
+  pub one : (id : ℕ) (x y : Lin) → IsSumAt sums id x → IsSumAt sums id y → x ≡ y
 
 -- g gives each term by number what its sum is worth
 abbrev pub IsWorth : Entries → (ℕ → ℤ) → (TermId → ℤ) → Type 0
@@ -154,6 +155,10 @@ pub record IsWideAt (sums : Entries) (f : Claim TermId) (n : ℤ) : Type 0 where
   pub sum_a : IsSumAt sums a.0 x
   pub sum_b : IsSumAt sums b.0 y
   pub wide : IsWideComparison x y n
+
+-- no atom of a comparison in the formula has a number that is too large
+abbrev pub AreNarrowAt : Entries → Claim TermId → Type 0
+AreNarrowAt sums f = (n : ℤ) → IsWideAt sums f n → ⊥
 
 -- each formula is true
 abbrev pub AllHold : (TermId → ℤ) → List (Claim TermId) → Type 0

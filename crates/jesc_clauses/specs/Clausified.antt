@@ -1,5 +1,5 @@
 -- What the clauses of formulas say, and which numbers are too large for them.
-use Rattle.std.specs.Prelude.{◌≡◌, ℕ, ◌+◌, ◌*◌, ◌<◌, ◌≤◌, ℤ, unsigned_abs, List, ◌⊎◌, length, map, sum, All, Some, slice_get}
+use Rattle.std.specs.Prelude.{◌≡◌, true, ℕ, ◌+◌, ◌*◌, ◌<◌, ◌≤◌, ℤ, unsigned_abs, List, ◌⊎◌, length, map, sum, All, Some, slice_get}
 use Rattle.jesc_logic.specs.Terms.{Term}
 use Rattle.jesc_logic.specs.Claims.{Claim, node_count}
 use Rattle.jesc_clauses.specs.declared.atom.Atom.{Atom}
@@ -8,7 +8,7 @@ use Rattle.jesc_clauses.specs.declared.lin.Lin.{Lin}
 use Rattle.jesc_clauses.specs.Countermodels.{IsCountermodel}
 use Rattle.jesc_clauses.specs.Normals.{IsNormal}
 use Rattle.jesc_clauses.specs.Comparisons.{IsNarrowAtom, IsWideComparison}
-use Rattle.jesc_clauses.specs.Readings.{Values, IsModel, StandsInClaim, Compares}
+use Rattle.jesc_clauses.specs.Readings.{Values, is_opaque, IsModel, StandsInClaim, Compares}
 use Rattle.jesc_clauses.specs.Sums.{AreOpaques, IsReadAs, IsNarrow, names_of}
 use Rattle.jesc_clauses.specs.Formulas.{IsWideInClaim}
 
@@ -43,20 +43,9 @@ IsAmong claims t = (k : ℕ) × (f : Claim Term) × (slice_get claims k ≡ Some
 abbrev pub Agree : List Term → (ℕ → ℤ) → Values → Type 0
 Agree names v w = (i : ℕ) (t : Term) → slice_get names i ≡ Some t → v i ≡ w t
 
--- the clauses are those of the formulas: each countermodel of the clauses is one of the formulas, and each of the formulas
--- extends to one of the clauses, which gives the terms of the formulas the same numbers
-pub record IsClausified (table : List Term) (claims : List (Claim Term)) (clauses : Clauses) : Type 0 where
-  pub opaques : AreOpaques table clauses.terms
-  pub scoped : AreScoped (length clauses.terms) clauses.atoms clauses.clauses
-  pub narrow : (t : Term) → IsAmong claims t → IsNarrow t
-  pub counted : size_of clauses.atoms clauses.clauses ≤ most_for_a_node * sum (map (λ f. node_count f) claims)
-  pub sound : (v : ℕ → ℤ) → IsCountermodel clauses v → (w : Values) × (IsModel claims w × Agree (names_of table clauses.terms) v w)
-  pub complete : (w : Values) → IsModel claims w → (v : ℕ → ℤ) × (IsCountermodel clauses v × ((i : ℕ) (t : Term) → IsAmong claims t → slice_get (names_of table clauses.terms) i ≡ Some t → v i ≡ w t))
-
--- two sides of a comparison in the formula are these sums, over some numbers for terms, and the atom has a number that is
+-- with these numbers for terms, two sides of a comparison in the formula are these sums, and the atom has a number that is
 -- too large
-pub record IsWideBetween (f : Claim Term) (n : ℤ) : Type 0 where
-  pub names : List Term
+pub record IsWideOver (names : List Term) (f : Claim Term) (n : ℤ) : Type 0 where
   pub a : Term
   pub b : Term
   pub x : Lin
@@ -65,6 +54,26 @@ pub record IsWideBetween (f : Claim Term) (n : ℤ) : Type 0 where
   pub read_a : IsReadAs names a x
   pub read_b : IsReadAs names b y
   pub wide : IsWideComparison x y n
+
+-- the clauses are those of the formulas: each countermodel of the clauses is one of the formulas, and each of the formulas
+-- extends to one of the clauses, which gives the terms of the formulas the same numbers
+pub record IsClausified (table : List Term) (claims : List (Claim Term)) (clauses : Clauses) : Type 0 where
+  pub opaques : AreOpaques table clauses.terms
+  pub scoped : AreScoped (length clauses.terms) clauses.atoms clauses.clauses
+  pub narrow : (t : Term) → IsAmong claims t → IsNarrow t
+  pub short : (k : ℕ) (f : Claim Term) (n : ℤ) → slice_get claims k ≡ Some f → IsWideOver (names_of table clauses.terms) f n → ⊥
+  pub counted : size_of clauses.atoms clauses.clauses ≤ most_for_a_node * sum (map (λ f. node_count f) claims)
+  pub sound : (v : ℕ → ℤ) → IsCountermodel clauses v → (w : Values) × (IsModel claims w × Agree (names_of table clauses.terms) v w)
+  pub complete : (w : Values) → IsModel claims w → (v : ℕ → ℤ) × (IsCountermodel clauses v × ((i : ℕ) (t : Term) → IsAmong claims t → slice_get (names_of table clauses.terms) i ≡ Some t → v i ≡ w t))
+
+-- opaque terms by number, and none under two numbers
+pub record AreNames (names : List Term) : Type 0 where
+  pub opaque : (i : ℕ) (t : Term) → slice_get names i ≡ Some t → is_opaque t ≡ true
+  pub apart : (i j : ℕ) (t : Term) → slice_get names i ≡ Some t → slice_get names j ≡ Some t → i ≡ j
+
+-- the same over some numbers for opaque terms
+abbrev pub IsWideBetween : Claim Term → ℤ → Type 0
+IsWideBetween f n = (names : List Term) × AreNames names × IsWideOver names f n
 
 -- a number of a term in the formulas, or of an atom that a comparison in them comes to, is too large
 abbrev pub IsWideAmong : List (Claim Term) → ℤ → Type 0

@@ -3,7 +3,7 @@
 ghost use Rattle.std.specs.Prelude.{◌≡◌, ℕ, ◌<◌, [], ◌∷◌, length, map, All, IfOk, OnOk, ◌^◌, ◌*◌};
 ghost use Rattle.jesc_logic.specs.Terms.{Keeps};
 ghost use Rattle.jesc_logic.specs.Claims.{at_most as at_most_claim, node_count, shape};
-ghost use Rattle.jesc_clauses.specs.Builders.{AreSums, IsAsserted, IsAtomPut, IsBoth, IsBuilt, IsClausePut, IsTermPut, IsTold, IsTruth, IsWideAt, IsWideOneAt, Tells, turned};
+ghost use Rattle.jesc_clauses.specs.Builders.{AreNarrowAt, AreSums, IsAsserted, IsAtomPut, IsBoth, IsBuilt, IsClausePut, IsTermPut, IsTold, IsTruth, IsWideAt, IsWideOneAt, Tells, turned};
 ghost use Rattle.jesc_clauses.specs.declared.builder.Truth.TheVariants.{Literal};
 ghost use Rattle.jesc_clauses.specs.Clausified.{IsLiteral};
 ghost use Rattle.jesc_clauses.specs.Formulas.{HasSums};
@@ -23,7 +23,7 @@ use std::alloc::Global;
 
 /// What a formula comes to: a constant, or the literal k of atom k - 1, or -k of its negation.
 #[derive(Debug, Drop, Clone, Copy, PartialEq, Eq)]
-pub(crate) enum Truth {
+pub enum Truth {
     Constant(bool),
     Literal(i32),
 }
@@ -56,6 +56,7 @@ impl Builder {
         requires have { All (λ f. HasSums sums.now (shape f)) formulas.now }
         ensures keeps { Keeps terms.old terms.new }
         ensures asserted { OnOk result (IsAsserted sums.now terms.new self.old self.new (map shape formulas.now)) }
+        ensures narrow { OnOk result (All (AreNarrowAt sums.now) (map shape formulas.now)) }
         ensures wide { OnWide (IsWideOneAt sums.now (map shape formulas.now)) result }
     {
         for f in formulas {
@@ -77,6 +78,7 @@ impl Builder {
         requires have { HasSums sums.now (shape f.now) }
         ensures keeps { Keeps terms.old terms.new }
         ensures asserted { OnOk result (IsAsserted sums.now terms.new self.old self.new (shape f.now ∷ [])) }
+        ensures narrow { OnOk result (AreNarrowAt sums.now (shape f.now)) }
         ensures wide { OnWide (IsWideAt sums.now (shape f.now)) result }
     {
         match self.truth_of(alloc, terms, sums, f)? {
@@ -100,6 +102,7 @@ impl Builder {
         ensures keeps { Keeps terms.old terms.new }
         ensures told { IfOk result (IsTold terms.new self.old self.new (13 * node_count (shape f.now))) }
         ensures tells { IfOk result (λ truth. Tells sums.now self.new truth (shape f.now)) }
+        ensures narrow { IfOk result (λ truth. AreNarrowAt sums.now (shape f.now)) }
         ensures wide { OnWide (IsWideAt sums.now (shape f.now)) result }
     {
         match f.node.get() {
@@ -140,6 +143,7 @@ impl Builder {
         requires b { HasSum sums.now b.0 }
         ensures told { IfOk result (IsTold terms.now self.old self.new 1) }
         ensures tells { IfOk result (λ truth. Tells sums.now self.new truth (at_most_claim a b)) }
+        ensures narrow { IfOk result (λ truth. AreNarrowAt sums.now (at_most_claim a b)) }
         ensures wide { OnWide (IsWideAt sums.now (at_most_claim a b)) result }
     {
         let normal = match (sums.get(a.0), sums.get(b.0)) {

@@ -16,7 +16,9 @@ use jesc_text::{List, OutOfMemory};
 use std::alloc::Global;
 
 /// What 'the first sum is at most the second' comes to.
-pub(crate) fn at_most(alloc: Global, x: &Lin, y: &Lin) -> Result<Normal, ClauseError>
+///
+/// Answers `Wide` where a number of the atom is too large, and `OutOfMemory` where there is no room for it.
+pub fn at_most(alloc: Global, x: &Lin, y: &Lin) -> Result<Normal, ClauseError>
     requires x { IsLin x.now }
     requires y { IsLin y.now }
     ensures comparison { IfOk result (IsComparison x.now y.now) }

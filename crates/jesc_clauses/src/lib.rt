@@ -26,8 +26,10 @@ mod reader;
 mod sum_table;
 
 pub use atom::Atom;
+pub use builder::Truth;
 pub use clause::{Clause, Clauses, Opaque};
 pub use clausify_formulas::clausify;
+pub use comparison::at_most;
 pub use error::ClauseError;
 pub use lin::Lin;
 pub use normal::{Normal, normal_form};

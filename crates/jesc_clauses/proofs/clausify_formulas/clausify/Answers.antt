@@ -47,4 +47,4 @@ returns-clause-clausified c =
     subst (λ (gs : List Formula). IsClausified c.assert_all.new.terms (map (claim_of table) gs) (record { terms = last.opaques; atoms = last.atoms; clauses = last.clauses })) c.as_slice-formulas.ensures
     (clausified table c.assert_all.new.terms c.assert_all.ensures.keeps fs r.sums r.opaques read.reader read.have c.in-Some.symbol
     (subst (λ (os : List Opaque). IsFree os c.in-Some.symbol) c.as_slice.ensures c.in-Some.ensures)
-    _ last refl c.len.ensures refl c.new.ensures c.new-2.ensures c.in_ok-assert_all.ensures.asserted)
+    _ last refl c.len.ensures refl c.new.ensures c.new-2.ensures c.in_ok-assert_all.ensures.asserted c.in_ok-assert_all.ensures.narrow)

@@ -3,11 +3,11 @@ use Rattle.jesc_logic.specs.declared.terms.TermId.{TermId}
 use Rattle.jesc_logic.specs.declared.formula.FormulaNode.TheViews.{the_lemmas}
 use Rattle.jesc_logic.specs.Claims.{Claim, both, either, node_count, shape}
 use Rattle.jesc_clauses.specs.Formulas.{HasSums}
-use Rattle.jesc_logic.proofs.Shapes.{eq_is, and_is, or_is}
+use Rattle.jesc_logic.proofs.Shapes.{le_is, eq_is, and_is, or_is}
 use Rattle.jesc_clauses.specs.declared.builder.Truth.{Truth}
-use Rattle.jesc_clauses.specs.Builders.{Tells, IsWideAt}
-use Rattle.jesc_clauses.proofs.Wide.{handed}
-use Rattle.jesc_clauses.proofs.Telling.{sums_stay, can_turn, told_constant, negated_told, negated_tells, three_told, three_both, three_equal, three_either, wide_other, of_equal, of_both, of_either, not_is}
+use Rattle.jesc_clauses.specs.Builders.{AreNarrowAt, Tells, IsWideAt}
+use Rattle.jesc_clauses.proofs.Wide.{handed, if_ok}
+use Rattle.jesc_clauses.proofs.Telling.{sums_stay, can_turn, told_constant, negated_told, negated_tells, three_told, three_both, three_equal, three_either, wide_other, of_equal, of_both, of_either, not_is, narrow_equal, narrow_both, narrow_either, narrow_negation}
 use Rattle.jesc_clauses.proofs.builder.Builder.+truth_of.Goals as goal
 
 pub comparison-requires-in-Eq-2-clause-sums : goal.comparison-requires-in-Eq-2-clause-sums
@@ -127,3 +127,31 @@ returns-in_ok-both-in-Or-clause-tells t c =
     (negated_tells c.truth_of-in-Or.new.terms c.args.self.now c.truth_of-in-Or.new.self (13 * node_count (shape x.g)) p.field-0 c.negated-first.result c.negated-first.ensures p.ensures.told sums (shape x.g) p.ensures.tells)
     (negated_tells c.truth_of-in-Or-2.new.terms c.truth_of-in-Or.new.self c.truth_of-in-Or-2.new.self (13 * node_count (shape x.h)) q.field-0 c.negated-second.result c.negated-second.ensures q.ensures.told sums (shape x.h) q.ensures.tells)
     c.negated-in-Or.result c.negated-in-Or.ensures)
+
+-- ---- no number that is too large
+
+pub returns-in-Le-clause-narrow : goal.returns-in-Le-clause-narrow
+returns-in-Le-clause-narrow t c =
+    let x = c.in-Le in
+    let e = le_is c.args.f.now x.a x.b (sym c.get.ensures ∙ x.is) in
+    if_ok _ _ (λ truth narrow. subst (AreNarrowAt c.args.sums.now) (sym e) narrow) c.comparison.result c.comparison.ensures.narrow
+
+pub returns-in_ok-both-in-Eq-clause-narrow : goal.returns-in_ok-both-in-Eq-clause-narrow
+returns-in_ok-both-in-Eq-clause-narrow t c =
+    let x = c.in-Eq in
+    narrow_equal c.args.sums.now (shape c.args.f.now) x.a x.b (eq_is c.args.f.now x.a x.b (sym c.get.ensures ∙ x.is)) c.in_ok-first-in-Eq.ensures.narrow c.in_ok-second-in-Eq.ensures.narrow
+
+pub returns-in_ok-truth_of-in-Not-clause-narrow : goal.returns-in_ok-truth_of-in-Not-clause-narrow
+returns-in_ok-truth_of-in-Not-clause-narrow t c =
+    let x = c.in-Not in
+    narrow_negation c.args.sums.now (shape c.args.f.now) (shape x.g) (not_is c.args.f.now x.g (sym c.get.ensures ∙ x.is)) c.in_ok-truth_of-in-Not.ensures.narrow
+
+pub returns-in_ok-both-in-And-clause-narrow : goal.returns-in_ok-both-in-And-clause-narrow
+returns-in_ok-both-in-And-clause-narrow t c =
+    let x = c.in-And in
+    narrow_both c.args.sums.now (shape c.args.f.now) (shape x.g) (shape x.h) (and_is c.args.f.now x.g x.h (sym c.get.ensures ∙ x.is)) c.in_ok-first-in-And.ensures.narrow c.in_ok-second-in-And.ensures.narrow
+
+pub returns-in_ok-both-in-Or-clause-narrow : goal.returns-in_ok-both-in-Or-clause-narrow
+returns-in_ok-both-in-Or-clause-narrow t c =
+    let x = c.in-Or in
+    narrow_either c.args.sums.now (shape c.args.f.now) (shape x.g) (shape x.h) (or_is c.args.f.now x.g x.h (sym c.get.ensures ∙ x.is)) c.in_ok-truth_of-in-Or.ensures.narrow c.in_ok-truth_of-in-Or-2.ensures.narrow
