@@ -148,7 +148,8 @@ same_normal form bound (Fails a) (Fails b) h k =
 same_together : (limit : ℕ) (k : ℤ) (first : Form) (m : ℤ) (second f g : Form) → IsTogether limit k first m second f → IsTogether limit k first m second g → f ≡ g
 same_together limit k first m second f g p q = same_counts f g p.sized.sorted q.sized.sorted (λ i. p.worth (only_at i) ∙ sym (q.worth (only_at i)))
 
-same_comparison : (x y : Lin) (n m : Normal) → IsComparison x y n → IsComparison x y m → n ≡ m
+-- a comparison comes to one normal form
+pub same_comparison : (x y : Lin) (n m : Normal) → IsComparison x y n → IsComparison x y m → n ≡ m
 same_comparison x y n m h k =
     let f = same_together (2 ^ 33) (pos 1) x.form (negsuc 0) y.form h.form k.form h.together k.together in
     same_normal k.form (y.constant -ℤ x.constant) n m (subst (λ (g : Form). IsNormalOf g (y.constant -ℤ x.constant) n) f h.normal_of) k.normal_of

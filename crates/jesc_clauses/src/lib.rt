@@ -32,4 +32,4 @@ pub use clausify_formulas::clausify;
 pub use comparison::at_most;
 pub use error::ClauseError;
 pub use lin::Lin;
-pub use normal::{Normal, normal_form};
+pub use normal::{Normal, divisor_of, normal_form};

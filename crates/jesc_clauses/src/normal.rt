@@ -45,8 +45,8 @@ pub fn normal_form(alloc: Global, form: &[(i64, u32)], bound: i128) -> Result<No
     }
 }
 
-/// The greatest common divisor of a form's coefficients, which are not 0.
-fn divisor_of(form: &[(i64, u32)]) -> i64
+/// The greatest common divisor of a form's coefficients, which are not 0. Takes no memory.
+pub fn divisor_of(form: &[(i64, u32)]) -> i64
     requires form { IsForm form.now }
     requires short { All IsShort form.now }
     requires some { form.now ≢ [] }

@@ -23,4 +23,4 @@ mod table;
 
 pub use outcome::{Outcome, decide};
 pub use rows::{LinStep, Row};
-pub use steps::{check_steps, is_form};
+pub use steps::{check_steps, is_absurd, is_form, is_step};

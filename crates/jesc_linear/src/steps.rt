@@ -203,8 +203,8 @@ fn row_at<'a>(rows: &'a [Row], earlier: &'a [LinStep], number: u32) -> Option<&'
     }
 }
 
-/// Whether the step is derived from the given rows and the steps before it.
-fn is_step(rows: &[Row], earlier: &[LinStep], step: &LinStep) -> bool
+/// Whether the step is derived from the given rows and the steps before it. Takes no memory.
+pub fn is_step(rows: &[Row], earlier: &[LinStep], step: &LinStep) -> bool
     ensures { IsTrue result ↔ DerivesFrom (slice_get (rows.now ++ map row_of earlier.now) step.now.i) (slice_get (rows.now ++ map row_of earlier.now) step.now.j) step.now }
 {
     match row_at(rows, earlier, step.i) {
@@ -216,8 +216,8 @@ fn is_step(rows: &[Row], earlier: &[LinStep], step: &LinStep) -> bool
     }
 }
 
-/// Whether the step's row says that 0 is at most a negative number.
-fn is_absurd(step: &LinStep) -> bool
+/// Whether the step's row says that 0 is at most a negative number. Takes no memory.
+pub fn is_absurd(step: &LinStep) -> bool
     ensures { IsTrue result ↔ IsAbsurd step.now }
 {
     if step.row.form.as_slice().is_empty() {

@@ -1,0 +1,13 @@
+pub mod Besides
+pub mod Rows
+pub mod Congruent
+pub mod Sound
+pub mod SameLines
+pub mod TreeLines
+pub mod LinesOn
+pub mod CongruenceLines
+pub mod Coprime
+pub mod Flat
+pub mod Inverting
+pub mod Literals
+pub mod Taking

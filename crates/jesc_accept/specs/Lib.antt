@@ -1,0 +1,9 @@
+pub mod Branches
+pub mod Lemmas
+pub mod Moves
+pub mod Verdicts
+pub mod States
+pub mod Standings
+pub mod Congruences
+pub mod Numbers
+pub mod Rows

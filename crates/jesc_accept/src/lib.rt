@@ -1,0 +1,21 @@
+//! The checker of certificates that clauses have no countermodel.
+//!
+//! Begin with `judge`, the call, and `verdict`, its answer. It goes over a certificate's lines: `tables` keeps what the lines of
+//! atoms and lemmas have made, with `further` for atoms, `congruence` and `arithmetic` for lemmas, and `numbers` for the
+//! numbers of a line; `tree` keeps the open branches of the tree of splits.
+//!
+//! In `specs/`, a reader believes `Branches`, `Lemmas` and `Moves`, how each line goes on, and `Verdicts`, what the call
+//! answers. The others are what contracts inside the crate say.
+#![tactic(auto)]
+
+mod arithmetic;
+mod congruence;
+mod further;
+mod judge;
+mod numbers;
+mod tables;
+mod tree;
+mod verdict;
+
+pub use judge::accept;
+pub use verdict::Accept;
