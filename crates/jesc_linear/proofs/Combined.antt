@@ -55,17 +55,17 @@ total_added zero F G = refl
 total_added (suc n) F G = omega (arith, ints, total_added n F G)
 
 -- a term before those of the form
-coefficient_before : (low : ℕ) (f : Form) (t : ℕ) → RisesFrom low f → t < low → coefficient_of f t ≡ pos 0
+pub coefficient_before : (low : ℕ) (f : Form) (t : ℕ) → RisesFrom low f → t < low → coefficient_of f t ≡ pos 0
 coefficient_before low [] t r l = refl
 coefficient_before low (p ∷ ps) t r l =
     let rest = coefficient_before (p.1 + 1) ps t r.1 (omega arith) in
     let after : t < p.1 = omega arith in
     grind (arith, nat_tests)
 
-coefficient_here : (p : ℤ × ℕ) (ps : Form) → coefficient_of (p ∷ ps) p.1 ≡ p.0
+pub coefficient_here : (p : ℤ × ℕ) (ps : Form) → coefficient_of (p ∷ ps) p.1 ≡ p.0
 coefficient_here p ps = grind (arith, nat_tests)
 
-coefficient_other : (p : ℤ × ℕ) (ps : Form) (t : ℕ) → t ≢ p.1 → coefficient_of (p ∷ ps) t ≡ coefficient_of ps t
+pub coefficient_other : (p : ℤ × ℕ) (ps : Form) (t : ℕ) → t ≢ p.1 → coefficient_of (p ∷ ps) t ≡ coefficient_of ps t
 coefficient_other p ps t other = grind (arith, nat_tests)
 
 -- the terms of a form are below n

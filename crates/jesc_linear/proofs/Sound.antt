@@ -27,7 +27,7 @@ natural_next : (d a : ℕ) → 0 < d → a < d * (a / d + 1)
 natural_next d a p = grind arith
 
 -- the quotient rounded down is the greatest number whose multiple is no more
-quotient_is_greatest : (d x s : ℤ) → pos 1 ≤ℤ d → (d *ℤ x) ≤ℤ s → x ≤ℤ int_div_euclid s d
+pub quotient_is_greatest : (d x s : ℤ) → pos 1 ≤ℤ d → (d *ℤ x) ≤ℤ s → x ≤ℤ int_div_euclid s d
 quotient_is_greatest (pos d) (pos n) (pos a) p h =
     let q = natural_greatest d n a (omega (arith, ints)) (omega (arith, ints, pos-*ℤ-pos d n)) in omega (arith, ints)
 quotient_is_greatest (pos d) (negsuc n) (pos a) p h = omega (arith, ints)

@@ -1,5 +1,16 @@
 pub mod Forms
 pub mod Rows
 pub mod Steps
+pub mod Divisors
+pub mod Sums
+pub mod Merges
+pub mod Courses
+pub mod Elimination
 pub mod Evidence
 pub mod Inner
+pub mod Counts
+pub mod Marks
+pub mod Tables
+pub mod laws
+pub mod Limits
+pub mod Stages

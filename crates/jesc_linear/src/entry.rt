@@ -1,188 +1,221 @@
-//! How a row enters the table: it is looked at for numbers out of range, and stays where no row of its form has a bound as small.
-ghost use Rattle.std.specs.Prelude.{◌<◌, ◌^◌, length};
+//! How a row enters the table.
 
-use crate::normal::{
-    Part, compare, divide, divisor_of, is_wide_coefficient, is_wide_number, rounded_down,
-};
-use crate::rows::Row;
-use crate::table::{Line, Origin, Stop, Table, Variable, append, dismiss, form_at};
-use jesc_text::OutOfMemory;
+ghost use Rattle.std.specs.Prelude.{◌≡◌, ℕ, [], ◌∷◌, ◌++◌, true, false, not, ◌&&◌, ◌==◌, map, filter, All, IfOk, OnOk, OnErr, slice_get};
+ghost use Rattle.std.specs.List.{list_any};
+ghost use Rattle.std.specs.Ordering.{int_eq};
+ghost use Rattle.jesc_linear.specs.Steps.{DerivesFrom};
+ghost use Rattle.jesc_linear.specs.Inner.{row_of};
+ghost use Rattle.jesc_linear.specs.Elimination.{put_row, limited, covers as does_cover, same_form, stays as will_stay};
+ghost use Rattle.jesc_linear.specs.Marks.{mark_of as the_mark_of};
+ghost use Rattle.jesc_linear.specs.Tables.{IsTable, IsSlot, Extends, Goes, entries_of, entry_of, row_at};
+
+use crate::marks::mark_of;
+use crate::rows::{LinStep, Row};
+use crate::stop::{Slot, Stop};
+use crate::table::{Table, push_step, row_in};
+use jesc_text::{List, OutOfMemory};
 
 /// The most rows that the table may hold.
 const MOST_ROWS: usize = 3_000;
 
-/// Puts the input rows into the table, in order.
-pub fn put_rows(table: &mut Table, rows: &[Row]) -> Result<(), Stop>
-    requires { length rows.now < 2 ^ 31 }
+fn is_same_part(first: (i64, u32), second: (i64, u32)) -> bool
+    ensures { result ≡ (int_eq first.0 second.0 && (first.1 == second.1)) }
 {
-    for k in 0..rows.len() {
-        put_row(table, k as u32, &rows[k])?;
+    first.0 == second.0 && first.1 == second.1
+}
+
+#[tactic(auto, using(crate::proofs::Forming::other_lengths, crate::proofs::Forming::same_at))]
+fn is_same_form(first: &[(i64, u32)], second: &[(i64, u32)]) -> bool
+    ensures { result ≡ same_form first.now second.now }
+{
+    if first.len() != second.len() {
+        return false;
     }
-    Ok(())
-}
-
-/// Puts an input row into the table. It is looked at before its division.
-fn put_row(table: &mut Table, number: u32, row: &Row) -> Result<(), Stop> {
-    take_parts(table, row.form.as_slice())?;
-    look_at(table.made.as_slice(), row.bound)?;
-    let divisor = divisor_of(table.made.as_slice());
-    divide(table.made.as_mut_slice(), divisor);
-    let bound = rounded_down(row.bound, divisor);
-    enter(table, bound, number, Origin::Given(number, divisor))?;
-    Ok(())
-}
-
-/// Makes the form at work from an input row's.
-fn take_parts(table: &mut Table, form: &[(i64, u32)]) -> Result<(), OutOfMemory> {
-    table.made.clear();
-    for part in form {
-        let place = place_of(table.variables.as_slice(), part.1);
-        append(
-            &mut table.made,
-            Part {
-                coefficient: part.0,
-                place,
-            },
-        )?;
-    }
-    Ok(())
-}
-
-/// The place of a term that occurs.
-fn place_of(variables: &[Variable], term: u32) -> usize {
-    match variables.binary_search_by(|variable| variable.term.cmp(&term)) {
-        Ok(place) => place,
-        Err(place) => place,
-    }
-}
-
-/// Stops at the first number out of range, the coefficients from the left and then the bound.
-pub fn look_at(form: &[Part], bound: i128) -> Result<(), Stop> {
-    for part in form {
-        if is_wide_coefficient(part.coefficient) {
-            return Err(Stop::Number(part.coefficient as i128));
+    for k in 0..first.len() {
+        if !is_same_part(first[k], second[k]) {
+            return false;
         }
     }
-    if is_wide_number(bound) {
-        return Err(Stop::Number(bound));
-    }
-    Ok(())
+    true
 }
 
-/// Enters the form at work with this bound, and tells whether it stays: an empty form is dropped or ends the search, and of two equal forms
-/// the one with the lesser bound stays, at a tie the older one.
-pub fn enter(table: &mut Table, bound: i128, number: u32, origin: Origin) -> Result<bool, Stop> {
-    if table.made.is_empty() {
-        return if bound < 0 {
-            Err(Stop::Absurd(bound, origin))
-        } else {
-            Ok(false)
-        };
+/// Whether the slot's row has this form, whose mark is given.
+#[tactic(auto, using(crate::proofs::Forming::other_marks))]
+fn has_form(log: &List<LinStep>, slot: Slot, mark: u64, form: &[(i64, u32)]) -> bool
+    requires slot { IsSlot log.now slot }
+    requires mark { mark ≡ the_mark_of form.now }
+    ensures { result ≡ same_form (row_at log.now slot.at).form form.now }
+{
+    if slot.mark != mark {
+        return false;
     }
-    let line = table.lines.len();
-    match find_form(table) {
-        Ok(at) => {
-            if !replaces(table, at, bound) {
-                return Ok(false);
-            }
-            replace(table, at, line);
-        }
-        Err(at) => {
-            insert(&mut table.order, at, line)?;
-            count_rows(&mut table.variables, table.made.as_slice());
+    is_same_form(row_in(log, slot).form.as_slice(), form)
+}
+
+/// Whether some slot's row has this form.
+fn is_known(log: &List<LinStep>, slots: &[Slot], mark: u64, form: &[(i64, u32)]) -> bool
+    requires slots { All (IsSlot log.now) slots.now }
+    requires mark { mark ≡ the_mark_of form.now }
+    ensures { result ≡ list_any (λ entry. same_form entry.row.form form.now) (entries_of log.now slots.now) }
+{
+    for slot in slots {
+        if has_form(log, *slot, mark, form) {
+            return true;
         }
     }
-    append_line(table, bound, number, origin)?;
-    look_at_length(table)?;
-    Ok(true)
+    false
 }
 
-/// Where the form at work stands in the order of forms, or where it has to go.
-fn find_form(table: &Table) -> Result<usize, usize> {
-    let parts = table.parts.as_slice();
-    let lines = table.lines.as_slice();
-    let made = table.made.as_slice();
-    table
-        .order
-        .as_slice()
-        .binary_search_by(|line| compare(form_at(parts, lines, *line), made))
-}
-
-/// Whether a bound is less than that of the row at this place in the order.
-fn replaces(table: &Table, at: usize, bound: i128) -> bool {
-    match table.order.get(at) {
-        Some(line) => match table.lines.get(*line) {
-            Some(older) => bound < older.bound,
-            None => true,
-        },
-        None => true,
+/// Whether the slot's row has the row's form, and a bound that is no greater.
+fn covers(log: &List<LinStep>, slot: Slot, mark: u64, row: &Row) -> bool
+    requires slot { IsSlot log.now slot }
+    requires mark { mark ≡ the_mark_of row.now.form }
+    ensures { result ≡ does_cover row.now (entry_of log.now slot) }
+{
+    if !has_form(log, slot, mark, row.form.as_slice()) {
+        return false;
     }
+    row_in(log, slot).bound <= row.bound
 }
 
-/// Lets a new line stand in the place of the one that has its form.
-fn replace(table: &mut Table, at: usize, line: usize) {
-    if let Some(place) = table.order.get_mut(at) {
-        let older = *place;
-        *place = line;
-        dismiss(&mut table.lines, older);
+/// Whether some slot's row covers the row.
+fn is_covered(log: &List<LinStep>, slots: &[Slot], mark: u64, row: &Row) -> bool
+    requires slots { All (IsSlot log.now) slots.now }
+    requires mark { mark ≡ the_mark_of row.now.form }
+    ensures { result ≡ list_any (does_cover row.now) (entries_of log.now slots.now) }
+{
+    for slot in slots {
+        if covers(log, *slot, mark, row) {
+            return true;
+        }
     }
+    false
 }
 
-/// Puts an item before the one at this place, or at the end.
-fn insert(items: &mut Vec<usize>, at: usize, item: usize) -> Result<(), OutOfMemory> {
-    let at = at.min(items.len());
-    match items.insert(at, item) {
+/// Drops the slots whose rows have this form.
+fn drop_form(log: &List<LinStep>, slots: &mut Vec<Slot>, mark: u64, form: &[(i64, u32)])
+    requires slots { All (IsSlot log.now) slots.old.items }
+    requires mark { mark ≡ the_mark_of form.now }
+    ensures { slots.new.items ≡ filter (λ slot. not (same_form (row_at log.now slot.at).form form.now)) slots.old.items }
+{
+    let mut kept = 0;
+    for at in 0..slots.len() {
+        let slot = slots[at];
+        if !has_form(log, slot, mark, form) {
+            slots[kept] = slot;
+            kept += 1;
+        }
+    }
+    slots.truncate(kept);
+}
+
+/// Whether no slot's row covers the row. If so, the slots whose rows have its form are dropped.
+fn make_way(log: &List<LinStep>, slots: &mut Vec<Slot>, mark: u64, row: &Row) -> bool
+    requires slots { All (IsSlot log.now) slots.old.items }
+    requires mark { mark ≡ the_mark_of row.now.form }
+    ensures stays { result ≡ not (list_any (does_cover row.now) (entries_of log.now slots.old.items)) }
+    ensures slots { All (IsSlot log.now) slots.new.items }
+    ensures dropped { result ≡ true → entries_of log.now slots.new.items ≡ filter (λ entry. not (same_form entry.row.form row.now.form)) (entries_of log.now slots.old.items) }
+    ensures same { result ≡ false → slots.new.items ≡ slots.old.items }
+{
+    if !is_known(log, slots.as_slice(), mark, row.form.as_slice()) {
+        return true;
+    }
+    if is_covered(log, slots.as_slice(), mark, row) {
+        return false;
+    }
+    drop_form(log, slots, mark, row.form.as_slice());
+    true
+}
+
+/// Appends a slot.
+fn push_slot(slots: &mut Vec<Slot>, slot: Slot) -> Result<(), OutOfMemory>
+    ensures ok { OnOk result (slots.new.items ≡ slots.old.items ++ slot ∷ []) }
+    ensures err { OnErr result (slots.new.items ≡ slots.old.items) }
+{
+    match slots.push(slot) {
         Ok(_) => Ok(()),
         Err(_) => Err(OutOfMemory),
     }
 }
 
-/// Counts a row more for each variable of its form.
-fn count_rows(variables: &mut Vec<Variable>, form: &[Part]) {
-    for part in form {
-        if let Some(variable) = variables.get_mut(part.place) {
-            if part.coefficient > 0 {
-                variable.uppers = variable.uppers.saturating_add(1);
-            } else {
-                variable.lowers = variable.lowers.saturating_add(1);
-            }
-        }
+/// Stops where more than 3,000 rows stand in the table.
+fn look_at_length(table: &Table) -> Result<(), Stop>
+    ensures { Goes table.now.log (λ u. entries_of table.now.log table.now.slots.items) (limited (entries_of table.now.log table.now.slots.items)) result }
+{
+    let length = table.slots.len();
+    if length <= MOST_ROWS {
+        return Ok(());
+    }
+    match u32::try_from(length) {
+        Ok(length) => Err(Stop::Forms(length)),
+        Err(_) => Err(Stop::Memory),
     }
 }
 
-/// Adds a line for the form at work.
-fn append_line(
+/// Enters the step's row, of that mark, as the last one.
+fn put_last(
+    rows: &[Row],
     table: &mut Table,
-    bound: i128,
     number: u32,
-    origin: Origin,
-) -> Result<(), OutOfMemory> {
-    let start = table.parts.len();
-    match table.parts.extend_from_slice(table.made.as_slice()) {
-        Ok(_) => {}
-        Err(_) => return Err(OutOfMemory),
-    }
-    let end = table.parts.len();
-    let line = table.lines.len();
-    append(
-        &mut table.lines,
-        Line {
-            start,
-            end,
-            bound,
-            number,
-            origin,
-            stands: true,
-        },
-    )?;
-    append(&mut table.standing, line)
+    mark: u64,
+    step: LinStep,
+) -> Result<bool, Stop>
+    requires table { IsTable rows.now table.old }
+    requires step { DerivesFrom (slice_get (rows.now ++ map row_of table.old.log) step.i) (slice_get (rows.now ++ map row_of table.old.log) step.j) step }
+    requires mark { mark ≡ the_mark_of step.row.form }
+    ensures table { IsTable rows.now table.new }
+    ensures log { Extends table.old.log table.new.log }
+    ensures next { table.new.next ≡ table.old.next }
+    ensures pairs { table.new.pairs ≡ table.old.pairs }
+    ensures course { Goes table.new.log (λ stays. entries_of table.new.log table.new.slots.items) (limited (entries_of table.old.log table.old.slots.items ++ record { number = number; row = step.row } ∷ [])) result }
+    ensures stays { IfOk result (λ stays. stays ≡ true) }
+{
+    let at = push_step(rows, &mut table.log, step)?;
+    push_slot(&mut table.slots, Slot { number, at, mark })?;
+    look_at_length(table)?;
+    Ok(true)
 }
 
-fn look_at_length(table: &Table) -> Result<(), Stop> {
-    let length = table.order.len();
-    if length > MOST_ROWS {
-        Err(Stop::Forms(u32::try_from(length).unwrap_or(u32::MAX)))
-    } else {
-        Ok(())
+/// Drops a row without a term, or ends the search where it says that 0 is at most a negative number.
+fn put_constant(rows: &[Row], table: &mut Table, step: LinStep) -> Result<bool, Stop>
+    requires table { IsTable rows.now table.old }
+    requires step { DerivesFrom (slice_get (rows.now ++ map row_of table.old.log) step.i) (slice_get (rows.now ++ map row_of table.old.log) step.j) step }
+    requires form { step.row.form ≡ [] }
+    ensures table { IsTable rows.now table.new }
+    ensures log { Extends table.old.log table.new.log }
+    ensures next { table.new.next ≡ table.old.next }
+    ensures pairs { table.new.pairs ≡ table.old.pairs }
+    ensures course { (number : ℕ) → Goes table.new.log (λ stays. entries_of table.new.log table.new.slots.items) (put_row number step.row (entries_of table.old.log table.old.slots.items)) result }
+    ensures stays { IfOk result (λ stays. stays ≡ will_stay (entries_of table.old.log table.old.slots.items) step.row) }
+{
+    if step.row.bound >= 0 {
+        return Ok(false);
     }
+    push_step(rows, &mut table.log, step)?;
+    Err(Stop::Absurd)
+}
+
+/// Enters the step's row under this number, and tells whether it stays: an empty form is dropped or ends the search, and of
+/// two equal forms the one with the lesser bound stays, at a tie the older one.
+///
+/// A row that ends the search has its step at the end of the log.
+pub(crate) fn put(rows: &[Row], table: &mut Table, number: u32, step: LinStep) -> Result<bool, Stop>
+    requires table { IsTable rows.now table.old }
+    requires step { DerivesFrom (slice_get (rows.now ++ map row_of table.old.log) step.i) (slice_get (rows.now ++ map row_of table.old.log) step.j) step }
+    ensures table { IsTable rows.now table.new }
+    ensures log { Extends table.old.log table.new.log }
+    ensures next { table.new.next ≡ table.old.next }
+    ensures pairs { table.new.pairs ≡ table.old.pairs }
+    ensures course { Goes table.new.log (λ stays. entries_of table.new.log table.new.slots.items) (put_row number step.row (entries_of table.old.log table.old.slots.items)) result }
+    ensures stays { IfOk result (λ stays. stays ≡ will_stay (entries_of table.old.log table.old.slots.items) step.row) }
+{
+    if step.row.form.as_slice().is_empty() {
+        return put_constant(rows, table, step);
+    }
+    let mark = mark_of(step.row.form.as_slice());
+    if !make_way(&table.log, &mut table.slots, mark, &step.row) {
+        return Ok(false);
+    }
+    put_last(rows, table, number, mark, step)
 }

@@ -1,16 +1,19 @@
 //! What the elimination of variables finds, with its evidence.
-ghost use Rattle.std.specs.Prelude.{◌<◌, ◌^◌, length, All, IfOk};
+
+ghost use Rattle.std.specs.Prelude.{◌≡◌, ◌<◌, ◌^◌, [], length, All, IfOk, Ok, Err, MatchResult};
 ghost use Rattle.jesc_linear.specs.Forms.{IsForm};
+ghost use Rattle.jesc_linear.specs.Courses.Ending.{gap};
+ghost use Rattle.jesc_linear.specs.Elimination.{HasOutcome, Decides, Values};
+ghost use Rattle.jesc_linear.specs.Tables.{IsTable, Ends, HasValues, entry_of, row_at};
 ghost use Rattle.jesc_linear.specs.Evidence.{HasEvidence, IsSound};
 
-use crate::back::{go_back, point_of};
-use crate::entry::put_rows;
-use crate::log::{row_of_line, steps_of};
-use crate::point::are_met;
+use crate::back::go_back;
+use crate::given::put_given;
+use crate::point::point_of;
 use crate::rows::{LinStep, Row};
-use crate::stage::eliminate;
-use crate::steps::check_steps;
-use crate::table::{Stop, Table};
+use crate::stage::{Stage, eliminate};
+use crate::stop::{Slot, Stop};
+use crate::table::Table;
 use jesc_text::{List, OutOfMemory};
 use std::alloc::Global;
 
@@ -40,87 +43,110 @@ pub enum Outcome {
 pub fn decide(alloc: Global, rows: &[Row]) -> Result<Outcome, OutOfMemory>
     requires few { length rows.now < 2 ^ 31 }
     requires forms { All (λ row. IsForm row.form) rows.now }
+    ensures defined { IfOk result (λ outcome. HasOutcome rows.now outcome) }
     ensures evidence { IfOk result (λ outcome. HasEvidence rows.now outcome) }
     ensures sound { IfOk result (λ outcome. IsSound rows.now outcome) }
 {
-    let found = search(alloc, rows)?;
-    Ok(borne_out(rows, found))
-}
-
-/// Withdraws an answer that its evidence doesn't bear out. The search makes no such answer; if it did, `WideNumber(0)` would say that nothing
-/// was found, with a number that is never out of range.
-fn borne_out(rows: &[Row], found: Outcome) -> Outcome
-    ensures evidence { HasEvidence rows.now result }
-    ensures sound { IsSound rows.now result }
-{
-    match found {
-        Outcome::Refuted(steps) => {
-            if check_steps(rows, steps.as_slice()) {
-                Outcome::Refuted(steps)
-            } else {
-                Outcome::WideNumber(0)
-            }
-        }
-        Outcome::Point(point) => {
-            if are_met(rows, point.as_slice()) {
-                Outcome::Point(point)
-            } else {
-                Outcome::WideNumber(0)
-            }
-        }
-        Outcome::WideForms(count) => Outcome::WideForms(count),
-        Outcome::WidePairs(count) => Outcome::WidePairs(count),
-        Outcome::WideNumber(number) => Outcome::WideNumber(number),
-        Outcome::Gap(i, first, j, second) => Outcome::Gap(i, first, j, second),
+    let mut table = Table::new(alloc, rows.len() as u32);
+    let mut stages = List::new(alloc);
+    let mut values = Vec::new(alloc);
+    match search(alloc, rows, &mut table, &mut stages, &mut values) {
+        Ok(()) => Ok(Outcome::Point(point_of(alloc, rows, values.as_slice())?)),
+        Err(stop) => outcome_of(alloc, rows, table, stop),
     }
 }
 
-/// The elimination and the way back.
-fn search(alloc: Global, rows: &[Row]) -> Result<Outcome, OutOfMemory>
-    requires { length rows.now < 2 ^ 31 }
+/// Eliminates every variable and gives each one its value.
+fn search(
+    alloc: Global,
+    rows: &[Row],
+    table: &mut Table,
+    stages: &mut List<Stage>,
+    values: &mut Vec<i128>,
+) -> Result<(), Stop>
+    requires few { length rows.now < 2 ^ 31 }
+    requires forms { All (λ row. IsForm row.form) rows.now }
+    requires log { table.old.log ≡ [] }
+    requires slots { table.old.slots.items ≡ [] }
+    requires next { table.old.next ≡ length rows.now }
+    requires pairs { table.old.pairs ≡ 0 }
+    requires stages { stages.old ≡ [] }
+    requires values { values.old.items ≡ [] }
+    ensures table { IsTable rows.now table.new }
+    ensures course { MatchResult result (λ u. (found : Values) × Decides rows.now (Ok found) × HasValues values.new.items found) (λ stop. Ends table.new.log stop (Decides rows.now)) }
 {
-    let mut table = Table::new(alloc, rows)?;
-    match find_values(&mut table, rows) {
-        Ok(()) => Ok(Outcome::Point(point_of(alloc, table.variables.as_slice())?)),
-        Err(stop) => answer(alloc, &table, rows.len() as u32, stop),
-    }
+    put_given(alloc, rows, table)?;
+    eliminate(alloc, rows, table, stages)?;
+    go_back(&table.log, stages, values)
 }
 
-fn find_values(table: &mut Table, rows: &[Row]) -> Result<(), Stop>
-    requires { length rows.now < 2 ^ 31 }
+/// The outcome where the search stopped.
+fn outcome_of(alloc: Global, rows: &[Row], table: Table, stop: Stop) -> Result<Outcome, OutOfMemory>
+    requires forms { All (λ row. IsForm row.form) rows.now }
+    requires table { IsTable rows.now table }
+    requires course { Ends table.log stop (Decides rows.now) }
+    ensures defined { IfOk result (λ outcome. HasOutcome rows.now outcome) }
+    ensures evidence { IfOk result (λ outcome. HasEvidence rows.now outcome) }
+    ensures sound { IfOk result (λ outcome. IsSound rows.now outcome) }
 {
-    put_rows(table, rows)?;
-    eliminate(table)?;
-    go_back(table)
-}
-
-/// The outcome where there is no point. `given` is the number of input rows.
-fn answer(alloc: Global, table: &Table, given: u32, stop: Stop) -> Result<Outcome, OutOfMemory> {
     match stop {
         Stop::Memory => Err(OutOfMemory),
+        Stop::Absurd => Ok(Outcome::Refuted(table.log)),
         Stop::Forms(count) => Ok(Outcome::WideForms(count)),
         Stop::Pairs(count) => Ok(Outcome::WidePairs(count)),
         Stop::Number(number) => Ok(Outcome::WideNumber(number)),
-        Stop::Absurd(bound, origin) => {
-            let steps = steps_of(alloc, table, given, bound, origin)?;
-            Ok(Outcome::Refuted(steps))
-        }
-        Stop::Gap(first, second) => gap_of(alloc, table, first, second),
+        Stop::Gap(first, second) => gap_of(alloc, rows, &table.log, first, second),
     }
 }
 
+/// The two rows of a gap, with their numbers.
 fn gap_of(
     alloc: Global,
-    table: &Table,
-    first: usize,
-    second: usize,
-) -> Result<Outcome, OutOfMemory> {
-    match (table.lines.get(first), table.lines.get(second)) {
-        (Some(first), Some(second)) => {
-            let row = row_of_line(alloc, table, first)?;
-            let other = row_of_line(alloc, table, second)?;
-            Ok(Outcome::Gap(first.number, row, second.number, other))
-        }
-        _ => Ok(Outcome::WideNumber(0)),
+    rows: &[Row],
+    log: &List<LinStep>,
+    first: Slot,
+    second: Slot,
+) -> Result<Outcome, OutOfMemory>
+    requires forms { All (λ row. IsForm row.form) rows.now }
+    requires course { Decides rows.now (Err (gap (entry_of log.now first) (entry_of log.now second))) }
+    ensures defined { IfOk result (λ outcome. HasOutcome rows.now outcome) }
+    ensures evidence { IfOk result (λ outcome. HasEvidence rows.now outcome) }
+    ensures sound { IfOk result (λ outcome. IsSound rows.now outcome) }
+{
+    let row = copied_row(alloc, log, first.at)?;
+    let other = copied_row(alloc, log, second.at)?;
+    Ok(Outcome::Gap(first.number, row, second.number, other))
+}
+
+/// A copy of the row of the step at that place, of none the empty row.
+fn copied_row(alloc: Global, log: &List<LinStep>, at: u32) -> Result<Row, OutOfMemory>
+    ensures { IfOk result (λ row. row ≡ row_at log.now at) }
+{
+    match log.as_slice().get(at as usize) {
+        Some(step) => copied(alloc, &step.row),
+        None => Ok(Row {
+            form: List::new(alloc),
+            bound: 0,
+        }),
     }
+}
+
+fn copied(alloc: Global, row: &Row) -> Result<Row, OutOfMemory>
+    ensures { IfOk result (λ copy. copy ≡ row.now) }
+{
+    let form = copied_form(alloc, row.form.as_slice())?;
+    Ok(Row {
+        form,
+        bound: row.bound,
+    })
+}
+
+fn copied_form(alloc: Global, form: &[(i64, u32)]) -> Result<List<(i64, u32)>, OutOfMemory>
+    ensures { IfOk result (λ copy. copy ≡ form.now) }
+{
+    let mut copy = List::new(alloc);
+    for part in form {
+        copy.push(*part)?;
+    }
+    Ok(copy)
 }

@@ -1,137 +1,234 @@
-//! The elimination, stage by stage: the variable in the fewest pairs of an upper and a lower row is cancelled in each pair, and its rows are
-//! set aside. An upper row has the variable with a positive coefficient, a lower row with a negative one.
-use crate::normal::coefficient_at;
-use crate::sum::put_sum;
-use crate::table::{
-    Held, Stage, Stop, Table, Variable, append, discount_rows, dismiss, form_at, keep_standing,
-    stands,
-};
-use jesc_text::OutOfMemory;
+//! The elimination, stage by stage: the variable in the fewest pairs of an upper and a lower row is cancelled in each pair,
+//! and its rows are set aside.
 
-/// The most pairs that all stages may have.
+ghost use Rattle.std.specs.Prelude.{◌≡◌, [], ◌∷◌, ◌++◌, Bool, not, if◌then◌else◌, Ok, All, List as Items, IfOk, OnOk, OnErr, filter, pos, int_lt, MatchResult};
+ghost use Rattle.jesc_linear.specs.Elimination as spec;
+ghost use Rattle.jesc_linear.specs.Elimination.{Solves, Values, IsNext, pairs_of};
+ghost use Rattle.jesc_linear.specs.Tables.{IsTable, IsSlot, AreStages, Ends, Extends, Goes, back, entry_of, entries_of, table_of};
+ghost use Rattle.jesc_linear.specs.Stages.{GivesStage};
+
+use crate::choice::{Choice, next_term};
+use crate::pairs::put_all_sums;
+use crate::rows::{LinStep, Row, coefficient};
+use crate::stop::{Slot, Stop};
+use crate::table::{Table, row_in};
+use jesc_text::{List, OutOfMemory};
+use std::alloc::Global;
+
+/// The most pairs that all stages together may have.
 const MOST_PAIRS: u32 = 200_000;
 
-/// Eliminates every variable. A stage's sums lack its variable, so there are no more stages than variables.
-pub fn eliminate(table: &mut Table) -> Result<(), Stop> {
-    let mut pairs = 0u32;
-    for _ in 0..table.variables.len() {
-        match next_variable(table.variables.as_slice()) {
-            Some(place) => {
-                pairs = count_pairs(pairs, table.variables.as_slice(), place)?;
-                run_stage(table, place)?;
+/// A variable that was eliminated, and the rows that were set aside for it, by number.
+#[derive(Drop)]
+pub struct Stage {
+    pub term: u32,
+    pub held: Vec<Slot>,
+}
+
+/// Counts the pairs of a stage to come.
+fn count_pairs(table: &mut Table, more: u64) -> Result<(), Stop>
+    ensures log { table.new.log ≡ table.old.log }
+    ensures slots { table.new.slots ≡ table.old.slots }
+    ensures course { Goes table.new.log (λ u. table_of table.new) (spec.counted more (table_of table.old)) result }
+{
+    if more > u32::MAX as u64 {
+        return Err(Stop::Memory);
+    }
+    match table.pairs.checked_add(more as u32) {
+        None => Err(Stop::Memory),
+        Some(pairs) => {
+            if pairs > MOST_PAIRS {
+                return Err(Stop::Pairs(pairs));
             }
-            None => return Ok(()),
+            table.pairs = pairs;
+            Ok(())
         }
+    }
+}
+
+/// Puts a slot to the upper or the lower ones, by its row's coefficient.
+fn put_side(
+    uppers: &mut List<Slot>,
+    lowers: &mut List<Slot>,
+    slot: Slot,
+    own: i64,
+) -> Result<(), OutOfMemory>
+    ensures uppers { OnOk result (uppers.new ≡ uppers.old ++ (if int_lt (pos 0) own then slot ∷ [] else [])) }
+    ensures lowers { OnOk result (lowers.new ≡ lowers.old ++ (if int_lt own (pos 0) then slot ∷ [] else [])) }
+{
+    if own > 0 {
+        uppers.push(slot)?;
+    } else if own < 0 {
+        lowers.push(slot)?;
     }
     Ok(())
 }
 
-fn pairs_of(variable: &Variable) -> u32 {
-    variable.uppers.saturating_mul(variable.lowers)
-}
-
-fn occurs(variable: &Variable) -> bool {
-    variable.uppers != 0 || variable.lowers != 0
-}
-
-/// Of the variables with rows in the table the one in fewest pairs, at a tie the one with the smaller term.
-fn next_variable(variables: &[Variable]) -> Option<usize> {
-    let mut found = None;
-    let mut fewest = u32::MAX;
-    for place in 0..variables.len() {
-        let variable = &variables[place];
-        if occurs(variable) && pairs_of(variable) < fewest {
-            fewest = pairs_of(variable);
-            found = Some(place);
-        }
+/// Adds the slots of the upper and of the lower rows of a term, in order.
+fn add_sides(
+    log: &List<LinStep>,
+    slots: &[Slot],
+    term: u32,
+    uppers: &mut List<Slot>,
+    lowers: &mut List<Slot>,
+) -> Result<(), OutOfMemory>
+    requires { All (IsSlot log.now) slots.now }
+    ensures uppers { OnOk result (uppers.new ≡ uppers.old ++ filter (λ slot. spec.is_upper term (entry_of log.now slot)) slots.now) }
+    ensures lowers { OnOk result (lowers.new ≡ lowers.old ++ filter (λ slot. spec.is_lower term (entry_of log.now slot)) slots.now) }
+{
+    for slot in slots {
+        put_side(
+            uppers,
+            lowers,
+            *slot,
+            coefficient(row_in(log, *slot).form.as_slice(), term),
+        )?;
     }
-    found
+    Ok(())
 }
 
-/// The pairs of all stages with those of the stage to come.
-fn count_pairs(pairs: u32, variables: &[Variable], place: usize) -> Result<u32, Stop> {
-    let more = match variables.get(place) {
-        Some(variable) => pairs_of(variable),
-        None => 0,
-    };
-    let pairs = pairs.saturating_add(more);
-    if pairs > MOST_PAIRS {
-        Err(Stop::Pairs(pairs))
+/// Puts the sums of a term's upper and lower rows into the table.
+fn put_stage_sums(alloc: Global, rows: &[Row], table: &mut Table, term: u32) -> Result<(), Stop>
+    requires { IsTable rows.now table.old }
+    ensures table { IsTable rows.now table.new }
+    ensures log { Extends table.old.log table.new.log }
+    ensures course { Goes table.new.log (λ u. table_of table.new) (spec.put_all_sums term (filter (spec.is_upper term) (entries_of table.old.log table.old.slots.items)) (filter (spec.is_lower term) (entries_of table.old.log table.old.slots.items)) (table_of table.old)) result }
+{
+    let mut uppers = List::new(alloc);
+    let mut lowers = List::new(alloc);
+    add_sides(
+        &table.log,
+        table.slots.as_slice(),
+        term,
+        &mut uppers,
+        &mut lowers,
+    )?;
+    put_all_sums(
+        alloc,
+        rows,
+        table,
+        term,
+        uppers.as_slice(),
+        lowers.as_slice(),
+    )
+}
+
+/// Whether the slot's row has the term.
+fn has_term(log: &List<LinStep>, slot: Slot, term: u32) -> bool
+    requires { IsSlot log.now slot }
+    ensures { result ≡ spec.has_term term (entry_of log.now slot) }
+{
+    coefficient(row_in(log, slot).form.as_slice(), term) != 0
+}
+
+fn push_slot(slots: &mut Vec<Slot>, slot: Slot) -> Result<(), OutOfMemory>
+    ensures { OnOk result (slots.new.items ≡ slots.old.items ++ slot ∷ []) }
+{
+    match slots.push(slot) {
+        Ok(_) => Ok(()),
+        Err(_) => Err(OutOfMemory),
+    }
+}
+
+/// Puts a slot to those held or to the rest.
+fn put_apart(
+    held: &mut Vec<Slot>,
+    rest: &mut Vec<Slot>,
+    slot: Slot,
+    has: bool,
+) -> Result<(), OutOfMemory>
+    ensures held { OnOk result (held.new.items ≡ held.old.items ++ (if has then slot ∷ [] else [])) }
+    ensures rest { OnOk result (rest.new.items ≡ rest.old.items ++ (if not has then slot ∷ [] else [])) }
+{
+    if has {
+        push_slot(held, slot)
     } else {
-        Ok(pairs)
+        push_slot(rest, slot)
     }
 }
 
-/// One stage: its rows are held, their sums enter the table, and then they are set aside.
-fn run_stage(table: &mut Table, place: usize) -> Result<(), Stop> {
-    let start = table.aside.len();
-    hold_rows(table, place)?;
-    let end = table.aside.len();
-    for at in start..end {
-        sum_with_lowers(table, at, start, end)?;
-    }
-    for at in start..end {
-        set_aside(table, at);
-    }
-    keep_standing(&mut table.standing, table.lines.as_slice());
-    keep_standing(&mut table.order, table.lines.as_slice());
-    append(&mut table.stages, Stage { place, start, end })?;
-    Ok(())
-}
-
-/// Lists the rows with the variable, by number.
-fn hold_rows(table: &mut Table, place: usize) -> Result<(), OutOfMemory> {
-    for line in table.standing.as_slice() {
-        let form = form_at(table.parts.as_slice(), table.lines.as_slice(), *line);
-        let coefficient = coefficient_at(form, place);
-        if coefficient != 0 && stands(table.lines.as_slice(), *line) {
-            append(
-                &mut table.aside,
-                Held {
-                    line: *line,
-                    coefficient,
-                },
-            )?;
-        }
+/// Adds the slots of the rows with the term, and of those without, in order.
+fn add_apart(
+    log: &List<LinStep>,
+    slots: &[Slot],
+    term: u32,
+    held: &mut Vec<Slot>,
+    rest: &mut Vec<Slot>,
+) -> Result<(), OutOfMemory>
+    requires { All (IsSlot log.now) slots.now }
+    ensures held { OnOk result (held.new.items ≡ held.old.items ++ filter (λ slot. spec.has_term term (entry_of log.now slot)) slots.now) }
+    ensures rest { OnOk result (rest.new.items ≡ rest.old.items ++ filter (λ slot. not (spec.has_term term (entry_of log.now slot))) slots.now) }
+{
+    for slot in slots {
+        put_apart(held, rest, *slot, has_term(log, *slot, term))?;
     }
     Ok(())
 }
 
-/// Puts into the table the sums of an upper row with each lower row of its stage.
-fn sum_with_lowers(table: &mut Table, at: usize, start: usize, end: usize) -> Result<(), Stop> {
-    let upper = match table.aside.get(at) {
-        Some(held) => *held,
-        None => return Ok(()),
-    };
-    if upper.coefficient < 0 {
-        return Ok(());
-    }
-    for other in start..end {
-        sum_with(table, upper, other)?;
-    }
-    Ok(())
+/// Takes the rows with the term out of the table. Where memory runs out, the table is as it was.
+fn set_aside(alloc: Global, table: &mut Table, term: u32) -> Result<Vec<Slot>, OutOfMemory>
+    requires { All (IsSlot table.old.log) table.old.slots.items }
+    ensures log { table.new.log ≡ table.old.log }
+    ensures unchanged { OnErr result (table.new.slots.items ≡ table.old.slots.items) }
+    ensures held { IfOk result (λ held. held.items ≡ filter (λ slot. spec.has_term term (entry_of table.old.log slot)) table.old.slots.items) }
+    ensures rest { OnOk result (table.new.slots.items ≡ filter (λ slot. not (spec.has_term term (entry_of table.old.log slot))) table.old.slots.items) }
+    ensures next { table.new.next ≡ table.old.next }
+    ensures pairs { table.new.pairs ≡ table.old.pairs }
+{
+    let mut held = Vec::new(alloc);
+    let mut rest = Vec::new(alloc);
+    add_apart(
+        &table.log,
+        table.slots.as_slice(),
+        term,
+        &mut held,
+        &mut rest,
+    )?;
+    table.slots = rest;
+    Ok(held)
 }
 
-fn sum_with(table: &mut Table, upper: Held, other: usize) -> Result<(), Stop> {
-    match table.aside.get(other) {
-        Some(held) => {
-            let lower = *held;
-            if lower.coefficient < 0 {
-                put_sum(table, upper, lower)
-            } else {
-                Ok(())
+/// Eliminates one variable.
+fn run_stage(alloc: Global, rows: &[Row], table: &mut Table, choice: Choice) -> Result<Stage, Stop>
+    requires table { IsTable rows.now table.old }
+    requires pairs { choice.pairs ≡ pairs_of (entries_of table.old.log table.old.slots.items) choice.term }
+    ensures table { IsTable rows.now table.new }
+    ensures log { Extends table.old.log table.new.log }
+    ensures held { IfOk result (λ stage. All (IsSlot table.new.log) stage.held.items) }
+    ensures course { GivesStage table.new.log choice.term (table_of table.old) (table_of table.new) result }
+{
+    count_pairs(table, choice.pairs)?;
+    put_stage_sums(alloc, rows, table, choice.term)?;
+    let held = set_aside(alloc, table, choice.term)?;
+    Ok(Stage {
+        term: choice.term,
+        held,
+    })
+}
+
+/// Eliminates every variable, and adds each stage to the empty list.
+///
+/// Where it goes through, the course from the table is that through the stages; where it stops, the course ends so.
+pub(crate) fn eliminate(
+    alloc: Global,
+    rows: &[Row],
+    table: &mut Table,
+    stages: &mut List<Stage>,
+) -> Result<(), Stop>
+    requires table { IsTable rows.now table.old }
+    requires stages { stages.old ≡ [] }
+    ensures table { IsTable rows.now table.new }
+    ensures stages { AreStages table.new.log stages.new }
+    ensures course { MatchResult result (λ u. Solves (table_of table.old) (back table.new.log stages.new (Ok []))) (λ stop. Ends table.new.log stop (Solves (table_of table.old))) }
+{
+    for _stage in 0..u32::MAX {
+        match next_term(alloc, &table.log, table.slots.as_slice())? {
+            None => return Ok(()),
+            Some(choice) => {
+                let stage = run_stage(alloc, rows, table, choice)?;
+                stages.push(stage)?;
             }
         }
-        None => Ok(()),
     }
-}
-
-/// Takes a held row out of the table.
-fn set_aside(table: &mut Table, at: usize) {
-    if let Some(held) = table.aside.get(at) {
-        let line = held.line;
-        let form = form_at(table.parts.as_slice(), table.lines.as_slice(), line);
-        discount_rows(&mut table.variables, form);
-        dismiss(&mut table.lines, line);
-    }
+    Err(Stop::Memory)
 }

@@ -1,0 +1,8 @@
+use Rattle.std.proofs.Common.{◌≡◌, drop}
+use Rattle.std.specs.List.{list_any}
+use Rattle.jesc_linear.specs.Elimination.{covers}
+use Rattle.jesc_linear.specs.Tables.{entries_of}
+use Rattle.jesc_linear.proofs.entry.is_covered.Given as goal
+
+abbrev pub invariant-loop-slot : goal.invariant-loop-slot
+invariant-loop-slot l = list_any (covers l.row) (entries_of l.log l.slots) ≡ list_any (covers l.row) (entries_of l.log (drop l.slot-index l.slots))

@@ -1,0 +1,28 @@
+use Rattle.std.proofs.Common.{◌^◌, ◌*ℤ◌, FitsSigned, w64, arith}
+use mir.Syntax.{w128}
+use Rattle.std.proofs.lemmas.Int.{to_z-of_z, fits_signed_mul, unsigned_abs-mul}
+use Rattle.std.proofs.Math.Nat.{mul-le-mul}
+use Rattle.jesc_linear.proofs.Sizes.{fits_wider}
+use Rattle.jesc_linear.proofs.merge.product.Goals as goal
+
+pub returns-clause-value : goal.returns-clause-value
+returns-clause-value c =
+    let a = c.args.factor in
+    let x = c.args.coefficient in
+    let fa : FitsSigned w64 a = c.ranges.factor in
+    let fx : FitsSigned w64 x = c.ranges.coefficient in
+    let wa : FitsSigned w128 a = fits_wider a fa in
+    let wx : FitsSigned w128 x = fits_wider x fx in
+    let product : FitsSigned w128 (a *ℤ x) = fits_signed_mul w128 a x (2 ^ 31) (2 ^ 31) c.requires.factor c.requires.coefficient (omega arith) in
+    simp to_z-of_z
+
+pub returns-clause-size : goal.returns-clause-size
+returns-clause-size c =
+    let a = c.args.factor in
+    let x = c.args.coefficient in
+    let fa : FitsSigned w64 a = c.ranges.factor in
+    let fx : FitsSigned w64 x = c.ranges.coefficient in
+    let wa : FitsSigned w128 a = fits_wider a fa in
+    let wx : FitsSigned w128 x = fits_wider x fx in
+    let product : FitsSigned w128 (a *ℤ x) = fits_signed_mul w128 a x (2 ^ 31) (2 ^ 31) c.requires.factor c.requires.coefficient (omega arith) in
+    simp to_z-of_z (omega (arith, unsigned_abs-mul a x, mul-le-mul c.requires.factor c.requires.coefficient))
