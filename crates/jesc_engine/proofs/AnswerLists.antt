@@ -1,39 +1,64 @@
 -- How the answers to lists of ways, and the findings on lists of obligations, are put together.
-use Rattle.std.proofs.Common.{◌≡◌, ◌≢◌, ◌+◌, List, [], ◌∷◌, ◌++◌, length, refl, sym, ◌∙◌, subst, arith, append_assoc, length-append}
-use Rattle.std.specs.Prelude.{Any}
-use Rattle.std.proofs.lemmas.List.{get_or_append_left, get_or-append-add, append-nil}
-use Rattle.std.proofs.lemmas.List.Elements.{All-append}
+use Rattle.std.proofs.Common.{◌≡◌, ◌≢◌, ◌+◌, suc, Bool, true, false, true≢false, inl, inr, List, [], ◌∷◌, ◌++◌, length, refl, sym, ◌∙◌, ap, subst, arith, append_assoc, All, Any}
+use Rattle.std.proofs.lemmas.List.{append-nil}
+use Rattle.std.proofs.lemmas.List.Elements.{All-nil, All-cons}
 use Rattle.jesc_linear.specs.declared.rows.Row.{Row}
-use Rattle.jesc_linear.specs.Rows.{HaveNoSolution}
+use Rattle.jesc_linear.specs.declared.outcome.Outcome.{Outcome}
+use Rattle.jesc_linear.specs.declared.outcome.Outcome.TheVariants as outcome
+use Rattle.jesc_linear.specs.Rows.{HaveNoSolution, value_at}
+use Rattle.jesc_linear.specs.Evidence.{HasEvidence, IsSound}
+use Rattle.jesc_linear.specs.Elimination.{HasOutcome, Decides}
 use Rattle.jesc_engine.specs.declared.answer.Answer.{Answer}
 use Rattle.jesc_engine.specs.declared.answer.Answer.TheVariants.{Proved, Open, WideForms, WidePairs, WideNumber, Gap}
 use Rattle.jesc_engine.specs.declared.answer.Finding.{Finding}
+use Rattle.jesc_engine.specs.Report.{is_proved}
 use Rattle.jesc_engine.specs.Ways.{Obligation, each_way}
-use Rattle.jesc_engine.specs.Walk.{HasSolution, Answers, AnswerAll, Continues, Extends}
+use Rattle.jesc_engine.specs.Outcomes.{HasSolution, Answers, AnswerAll}
+use Rattle.jesc_engine.specs.Walk.{Continues, Extends, answer_of}
 
-any_left : {X : Type 0} (P : X → Type 0) (xs ys : List X) → Any P xs → Any P (xs ++ ys)
-any_left P xs ys (k, x, l, e, p) = (k, x, omega (arith, length-append xs ys), get_or_append_left xs ys x k l ∙ e, p)
+other : (answer : Answer) → is_proved answer ≡ false → answer ≢ Proved
+other answer e p = true≢false (ap is_proved (sym p) ∙ e)
 
-any_right : {X : Type 0} (P : X → Type 0) (xs ys : List X) → Any P ys → Any P (xs ++ ys)
-any_right P xs ys (k, x, l, e, p) = (length xs + k, x, omega (arith, length-append xs ys), get_or-append-add xs ys k x ∙ e, p)
+-- an outcome answers its rows as the one way to fail
+pub one_way : (rows : List Row) (outcome : Outcome) → HasOutcome rows outcome → HasEvidence rows outcome → IsSound rows outcome → Answers (rows ∷ []) (answer_of outcome)
+one_way rows (outcome.Refuted steps) h e s = inr ((subst (Decides rows) h.2 h.1, s), refl)
+one_way rows (outcome.Point point) h e s = inl (other Open refl, (h.2.0, subst (Decides rows) h.2.1 h.1, (value_at point, e)))
+one_way rows (outcome.WideForms n) h e s = inl (other (WideForms n) refl, subst (Decides rows) h.2 h.1)
+one_way rows (outcome.WidePairs n) h e s = inl (other (WidePairs n) refl, subst (Decides rows) h.2 h.1)
+one_way rows (outcome.WideNumber z) h e s = inl (other (WideNumber z) refl, subst (Decides rows) h.2 h.1)
+one_way rows (outcome.Gap i first j second) h e s = inl (other Gap refl, (record { number = i; row = first }, record { number = j; row = second }, subst (Decides rows) h.2 h.1))
 
 -- the ways are refuted, and so the answer to more is that to all
 pub after_proved : (ways more : List (List Row)) (answer : Answer) → Answers ways Proved → Answers more answer → Answers (ways ++ more) answer
-after_proved ways more Proved p h = All-append HaveNoSolution ways more p h
-after_proved ways more Open p h = any_right HasSolution ways more h
-after_proved ways more (WideForms n) p h = tt
-after_proved ways more (WidePairs n) p h = tt
-after_proved ways more (WideNumber z) p h = tt
-after_proved ways more Gap p h = tt
+after_proved [] more answer p h = h
+after_proved (way ∷ ways) more answer p h = elim p [
+  | inl q ↦ absurd (q.0 refl)
+  | inr q ↦ inr (q.0, after_proved ways more answer q.1 h)
+]
 
 -- an answer other than Proved stands for more ways
 pub stands : (ways more : List (List Row)) (answer : Answer) → answer ≢ Proved → Answers ways answer → Answers (ways ++ more) answer
-stands ways more Proved n h = absurd (n refl)
-stands ways more Open n h = any_left HasSolution ways more h
-stands ways more (WideForms k) n h = tt
-stands ways more (WidePairs k) n h = tt
-stands ways more (WideNumber z) n h = tt
-stands ways more Gap n h = tt
+stands [] more answer n h = absurd (n h)
+stands (way ∷ ways) more answer n h = elim h [
+  | inl q ↦ inl q
+  | inr q ↦ inr (q.0, stands ways more answer n q.1)
+]
+
+-- where the answer is Proved no way has a solution
+pub all_refuted : (ways : List (List Row)) → Answers ways Proved → All HaveNoSolution ways
+all_refuted [] h = All-nil HaveNoSolution
+all_refuted (way ∷ ways) h = elim h [
+  | inl q ↦ absurd (q.0 refl)
+  | inr q ↦ All-cons HaveNoSolution way ways q.0.1 (all_refuted ways q.1)
+]
+
+-- where it is Open one has
+pub some_solved : (ways : List (List Row)) → Answers ways Open → Any HasSolution ways
+some_solved [] h = absurd (other Open refl h)
+some_solved (way ∷ ways) h = elim h [
+  | inl q ↦ (0, way, omega arith, refl, q.1.2)
+  | inr q ↦ let later = some_solved ways q.1 in (suc later.0, later.1, omega (arith, later.2), later.3, later.4)
+]
 
 pub continues_after_proved : (more : List (List Row)) (answer : Answer) → Answers more answer → Continues Proved more answer
 continues_after_proved more answer h = λ ways p. after_proved ways more answer p h

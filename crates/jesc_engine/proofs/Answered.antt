@@ -10,8 +10,9 @@ use Rattle.jesc_engine.specs.declared.answer.Answer.TheVariants.{Proved, Open}
 use Rattle.jesc_engine.specs.declared.answer.Finding.{Finding}
 use Rattle.jesc_engine.specs.Ways.{Obligation, obligations}
 use Rattle.jesc_engine.specs.Findings.{Doubts, AreFindings}
-use Rattle.jesc_engine.specs.Walk.{Answers, AnswerAll}
+use Rattle.jesc_engine.specs.Outcomes.{Answers, AnswerAll}
 use Rattle.jesc_engine.proofs.Meeting.{Met, OneOf, Broken, all_from_met, one_from_any}
+use Rattle.jesc_engine.proofs.AnswerLists.{all_refuted, some_solved}
 use Rattle.jesc_engine.proofs.Starting.{can_fail, has_way}
 use Rattle.jesc_engine.proofs.Listing.{check_of, checks_listed}
 
@@ -32,7 +33,7 @@ open_ones_fail method [] (finding ∷ findings) a h = elim a [ ]
 open_ones_fail method (obligation ∷ those) [] a h = elim a [ ]
 open_ones_fail method (obligation ∷ those) (finding ∷ findings) a h =
     All-cons (λ finding. finding.answer ≡ Open → CanFail method finding.check) finding findings
-    (λ is_open. let solved = one_from_any obligation.ways (subst (Answers obligation.ways) is_open a.1) in
+    (λ is_open. let solved = one_from_any obligation.ways (some_solved obligation.ways (subst (Answers obligation.ways) is_open a.1)) in
     subst (CanFail method) (sym a.0) (h solved.0 obligation.check (inl (record { same = refl; way = solved.1 }))))
     (open_ones_fail method those findings a.2 (λ v failing b. h v failing (inr b)))
 
@@ -49,7 +50,7 @@ doubted : (v : ℕ → ℤ) (those : List Obligation) (findings : List Finding) 
 doubted v [] findings failing a b = absurd b
 doubted v (obligation ∷ those) [] failing a b = absurd a
 doubted v (obligation ∷ those) (finding ∷ findings) failing a b = elim b [
-  | inl h ↦ (0, finding, omega arith, refl, (a.0 ∙ h.same, λ proved. no_way v obligation.ways (subst (Answers obligation.ways) proved a.1) h.way))
+  | inl h ↦ (0, finding, omega arith, refl, (a.0 ∙ h.same, λ proved. no_way v obligation.ways (all_refuted obligation.ways (subst (Answers obligation.ways) proved a.1)) h.way))
   | inr q ↦ let later = doubted v those findings failing a.2 q in (suc later.0, later.1, omega (arith, later.2), later.3, later.4)
 ]
 
@@ -59,4 +60,5 @@ findings_are method findings a = record {
   checks = same_checks (obligations method) findings a ∙ checks_listed method;
   open_ones = open_ones_fail method (obligations method) findings a (can_fail method);
   proved = λ failing fails. let found = has_way method failing fails in doubted found.0 (obligations method) findings failing a found.1;
+  answers = a;
 }

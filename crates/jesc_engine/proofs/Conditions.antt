@@ -1,14 +1,13 @@
 -- A condition after the two sums of its sides, and lists of conditions.
-use Rattle.std.proofs.Common.{◌≡◌, ℕ, ◌+◌, ◌<◌, ◌≤◌, List, [], ◌∷◌, length, get_or, drop, sym, ◌∙◌, ap, subst, arith}
+use Rattle.std.proofs.Common.{◌≡◌, ℕ, ◌+◌, ◌<◌, ◌≤◌, List, [], ◌∷◌, length, get_or, drop, refl, sym, ◌∙◌, ap, subst, arith}
 use Rattle.std.proofs.lemmas.List.{drop_more, drop_all}
-use Rattle.std.proofs.lemmas.List.Elements.{All-nil}
-use Rattle.jesc_linear.specs.Rows.{HaveNoSolution}
 use Rattle.jesc_first.specs.declared.tree.Condition.{Condition}
 use Rattle.jesc_engine.specs.declared.answer.Answer.{Answer}
 use Rattle.jesc_engine.specs.declared.answer.Answer.TheVariants.{Proved}
 use Rattle.jesc_engine.specs.declared.ways.atom.Atom.{Atom}
 use Rattle.jesc_engine.specs.Ways.{Facts, atom_in, sum_facts, sum_atom, sum_ways, concat, each_way, breaking, trouble_ways, break_ways, condition_facts, demand_facts}
-use Rattle.jesc_engine.specs.Walk.{Answers, IsScope, IsSummed, IsGrown, Continues}
+use Rattle.jesc_engine.specs.Outcomes.{Answers}
+use Rattle.jesc_engine.specs.Walk.{IsScope, IsSummed, IsGrown, Continues}
 use Rattle.jesc_engine.proofs.AnswerLists.{continues_on}
 use Rattle.jesc_engine.proofs.Sums.{scope_later}
 
@@ -21,7 +20,7 @@ trouble_along atoms outcome before condition first x left answer s f g =
     let after = subst (λ (facts : Facts). Continues left (concat (sum_ways (atom_in atoms outcome) facts condition.right)) answer) s.facts g in
     continues_on Proved left answer (concat (sum_ways (atom_in atoms outcome) before condition.left))
     (concat (sum_ways (atom_in atoms outcome) (sum_facts (atom_in atoms outcome) before condition.left) condition.right)) f after
-    [] (All-nil HaveNoSolution)
+    [] refl
 
 pub broken_along : (atoms : List Atom) (outcome : Atom) (before : Facts) (condition : Condition) (first : Facts) (x : Atom) (second : Facts) (y : Atom)
     (answer : Answer) → IsSummed atoms outcome before condition.left x first → IsSummed atoms outcome first condition.right y second

@@ -5,7 +5,7 @@ use Rattle.jesc_linear.specs.declared.rows.Row.{Row}
 use Rattle.jesc_linear.specs.Rows.{Meets, MeetsAll}
 use Rattle.jesc_first.specs.declared.check.Check.{Check}
 use Rattle.jesc_engine.specs.Ways.{Obligation, each_way}
-use Rattle.jesc_engine.specs.Walk.{HasSolution}
+use Rattle.jesc_engine.specs.Outcomes.{HasSolution}
 
 -- v meets each of the rows
 abbrev pub Met : (ℕ → ℤ) → List Row → Type 0

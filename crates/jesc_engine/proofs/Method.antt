@@ -4,7 +4,8 @@ use Rattle.jesc_first.specs.declared.tree.Method.{Method}
 use Rattle.jesc_engine.specs.declared.answer.Finding.{Finding}
 use Rattle.jesc_engine.specs.declared.ways.atom.Atom.{Atom}
 use Rattle.jesc_engine.specs.Ways.{Facts, atom_in, no_outcome, terms_from, ranges_from, argument_facts, demand_facts, body_obligations, obligations}
-use Rattle.jesc_engine.specs.Walk.{AnswerAll, Extends}
+use Rattle.jesc_engine.specs.Outcomes.{AnswerAll}
+use Rattle.jesc_engine.specs.Walk.{Extends}
 
 pub found : (method : Method) (names : List (List ℕ)) (entry arguments atoms : List Atom) (start now : Facts) (old findings : List Finding)
     → names ≡ method.parameters → entry ≡ terms_from 0 names → arguments ≡ terms_from 0 names → atoms ≡ terms_from 0 names

@@ -1,6 +1,7 @@
 pub mod Rows
 pub mod Ways
 pub mod Findings
+pub mod Outcomes
 pub mod Walk
 pub mod Report
 pub mod Command

@@ -1,8 +1,9 @@
 -- Words that only contracts inside the crate use, on the search for the answers.
 use Rattle.std.specs.Prelude.{◌≡◌, ◌≢◌, ℕ, ◌<◌, ◌≤◌, ◌^◌, ℤ, pos, unsigned_abs, List, [], ◌∷◌, ◌++◌, length, All, Any}
 use Rattle.jesc_linear.specs.declared.rows.Row.{Row}
-use Rattle.jesc_linear.specs.Rows.{MeetsAll, HaveNoSolution}
 use Rattle.jesc_linear.specs.Forms.{IsForm}
+use Rattle.jesc_linear.specs.declared.outcome.Outcome.{Outcome}
+use Rattle.jesc_linear.specs.declared.outcome.Outcome.TheVariants as outcome
 use Rattle.jesc_engine.specs.declared.answer.Answer.{Answer}
 use Rattle.jesc_engine.specs.declared.answer.Answer.TheVariants.{Proved, Open, WideForms, WidePairs, WideNumber, Gap}
 use Rattle.jesc_engine.specs.declared.answer.Finding.{Finding}
@@ -10,6 +11,7 @@ use Rattle.jesc_engine.specs.declared.ways.atom.Atom.{Atom}
 use Rattle.jesc_engine.specs.declared.ways.atom.Atom.TheVariants.{Number, Term}
 use Rattle.jesc_first.specs.declared.tree.Operation.{Operation}
 use Rattle.jesc_first.specs.declared.tree.Sum.{Sum}
+use Rattle.jesc_engine.specs.Outcomes.{Answers, AnswerAll}
 use Rattle.jesc_engine.specs.Ways.{Obligation, Facts, atom_in, no_outcome, facts_after, atom_after, sum_facts, sum_atom}
 
 -- a coefficient that the rows use
@@ -52,27 +54,6 @@ pub record IsGrown (before wanted now : Facts) : Type 0 where
   pub same : now ≡ wanted
   pub grows : before.fresh ≤ now.fresh
 
--- some whole numbers meet the rows
-abbrev pub HasSolution : List Row → Type 0
-HasSolution rows = (v : ℕ → ℤ) × MeetsAll v rows
-
--- Proved where no way has a solution, and Open only where one has.
-abbrev pub Answers : List (List Row) → Answer → Type 0
-Answers ways Proved = All HaveNoSolution ways
-Answers ways Open = Any HasSolution ways
-Answers ways (WideForms n) = Unit {0}
-Answers ways (WidePairs n) = Unit {0}
-Answers ways (WideNumber z) = Unit {0}
-Answers ways Gap = Unit {0}
-
--- a finding for each obligation, in order
-abbrev pub AnswerAll : List Obligation → List Finding → Type 0
-AnswerAll [] [] = Unit {0}
-AnswerAll [] (finding ∷ findings) = ⊥
-AnswerAll (obligation ∷ obligations) [] = ⊥
-AnswerAll (obligation ∷ obligations) (finding ∷ findings) =
-    (finding.check ≡ obligation.check) × Answers obligation.ways finding.answer × AnswerAll obligations findings
-
 -- with the ways that had the first answer, these have the second
 abbrev pub Continues : Answer → List (List Row) → Answer → Type 0
 Continues known more answer = (ways : List (List Row)) → Answers ways known → Answers (ways ++ more) answer
@@ -87,3 +68,12 @@ pub record IsAfter (before wanted now : Facts) (wanted_atoms atoms : List Atom) 
   pub grows : before.fresh ≤ now.fresh
   pub slots : atoms ≡ wanted_atoms
   pub scope : IsScope now.fresh atoms no_outcome
+
+-- the answer that an outcome gives
+abbrev pub answer_of : Outcome → Answer
+answer_of (outcome.Refuted steps) = Proved
+answer_of (outcome.Point point) = Open
+answer_of (outcome.WideForms n) = WideForms n
+answer_of (outcome.WidePairs n) = WidePairs n
+answer_of (outcome.WideNumber z) = WideNumber z
+answer_of (outcome.Gap i first j second) = Gap

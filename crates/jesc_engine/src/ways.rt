@@ -13,7 +13,7 @@ mod sums;
 
 ghost use Rattle.std.specs.Prelude.{◌≡◌, IfOk};
 ghost use Rattle.jesc_engine.specs.Ways.{obligations};
-ghost use Rattle.jesc_engine.specs.Walk.{AnswerAll};
+ghost use Rattle.jesc_engine.specs.Outcomes.{AnswerAll};
 
 use crate::answer::Finding;
 use crate::ways::conditions::assume_all;

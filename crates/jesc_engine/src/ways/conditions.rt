@@ -1,6 +1,7 @@
 ghost use Rattle.std.specs.Prelude.{◌≡◌, ◌∷◌, [], ◌≤◌, IfOk, OnOk};
 ghost use Rattle.jesc_engine.specs.Ways.{atom_in, no_outcome, with_rows, each_way, holding, breaking, trouble_ways, break_ways, condition_facts, condition_obligations, demand_facts};
-ghost use Rattle.jesc_engine.specs.Walk.{Answers, IsBelow, IsScope, IsGrown, Extends};
+ghost use Rattle.jesc_engine.specs.Outcomes.{Answers};
+ghost use Rattle.jesc_engine.specs.Walk.{IsBelow, IsScope, IsGrown, Extends};
 
 use crate::answer::{Answer, Finding};
 use crate::ways::atom::Atom;

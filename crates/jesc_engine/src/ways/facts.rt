@@ -1,8 +1,10 @@
 ghost use Rattle.std.specs.Prelude.{◌≡◌, ℕ, ◌+◌, ◌<◌, ◌≤◌, ◌^◌, pos, [], ◌∷◌, ◌++◌, length, IfOk, OnOk, OnErr};
 ghost use Rattle.jesc_linear.specs.Forms.{IsForm};
 ghost use Rattle.jesc_linear.specs.Evidence.{HasEvidence};
+ghost use Rattle.jesc_linear.specs.Steps.{Refutes};
 ghost use Rattle.jesc_engine.specs.Ways.{with_rows, each_way, tied, operated, operation_ways, in_range, below_range, above_range};
-ghost use Rattle.jesc_engine.specs.Walk.{Answers, AreRows, IsBelow};
+ghost use Rattle.jesc_engine.specs.Outcomes.{Answers};
+ghost use Rattle.jesc_engine.specs.Walk.{AreRows, IsBelow, answer_of};
 
 use crate::answer::Answer;
 use crate::ways::atom::Atom;
@@ -16,9 +18,10 @@ use std::marker::Model;
 /// The most rows that are ever gathered, and the most terms, of which each parameter has one.
 pub(crate) const LIMIT: u32 = (1 << 31) - 1;
 
-/// Proved where these steps refute the rows.
+/// Proved, where the checker takes these steps. It does: they are looked at once more so that nothing is Proved otherwise.
 fn refutation(rows: &[Row], steps: &[LinStep]) -> Answer
-    ensures { Answers (rows.now ∷ []) result }
+    requires { Refutes steps.now rows.now }
+    ensures { result ≡ Answer.Proved }
 {
     if check_steps(rows, steps) {
         Answer::Proved
@@ -30,7 +33,7 @@ fn refutation(rows: &[Row], steps: &[LinStep]) -> Answer
 /// What an outcome says of the rows as a way to fail.
 fn answer_from(rows: &[Row], outcome: Outcome) -> Answer
     requires { HasEvidence rows.now outcome }
-    ensures { Answers (rows.now ∷ []) result }
+    ensures { result ≡ answer_of outcome }
 {
     match outcome {
         Outcome::Refuted(steps) => refutation(rows, steps.as_slice()),
@@ -43,6 +46,7 @@ fn answer_from(rows: &[Row], outcome: Outcome) -> Answer
 }
 
 /// The answer to the rows as the one way to fail.
+#[tactic(auto, using(crate::proofs::AnswerLists::one_way))]
 fn answer_to(alloc: Global, rows: &[Row]) -> Result<Answer, OutOfMemory>
     requires { AreRows rows.now }
     ensures { IfOk result (λ answer. Answers (rows.now ∷ []) answer) }

@@ -1,6 +1,6 @@
 use Rattle.std.proofs.Common.{◌≡◌, ◌∷◌, [], ◌++◌, List, ap, subst, ◌∙◌}
 use Rattle.jesc_linear.specs.declared.rows.Row.{Row}
-use Rattle.jesc_engine.specs.Walk.{Answers}
+use Rattle.jesc_engine.specs.Outcomes.{Answers}
 use Rattle.jesc_engine.specs.Ways.{Facts}
 use Rattle.jesc_engine.proofs.ways.facts.Facts.way.Goals as goal
 
