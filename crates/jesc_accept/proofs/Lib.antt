@@ -11,3 +11,7 @@ pub mod Flat
 pub mod Inverting
 pub mod Literals
 pub mod Taking
+pub mod OneReading
+pub mod OneState
+pub mod OneJudgement
+pub mod Refuted

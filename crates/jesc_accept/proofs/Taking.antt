@@ -70,7 +70,7 @@ no_step old new ns none s tree m =
     none r.l (record { are = r.are; first = r.numbers.0; second = r.numbers.1; narrow = made_narrow _ _ r.l r.derives; there = r.there })
 
 -- the numbers tell the step
-same_step : (l m : LinStep) → l.a ∷ pos l.i ∷ l.b ∷ pos l.j ∷ l.d ∷ sum_numbers l.row.bound l.row.form ≡ m.a ∷ pos m.i ∷ m.b ∷ pos m.j ∷ m.d ∷ sum_numbers m.row.bound m.row.form → l ≡ m
+pub same_step : (l m : LinStep) → l.a ∷ pos l.i ∷ l.b ∷ pos l.j ∷ l.d ∷ sum_numbers l.row.bound l.row.form ≡ m.a ∷ pos m.i ∷ m.b ∷ pos m.j ∷ m.d ∷ sum_numbers m.row.bound m.row.form → l ≡ m
 same_step l m e =
     let rest : sum_numbers l.row.bound l.row.form ≡ sum_numbers m.row.bound m.row.form = cc in
     let form : l.row.form ≡ m.row.form = same_form _ _ _ _ rest in
@@ -115,7 +115,7 @@ takes_last old new ns l lemmas is derives ends due pushed made =
 -- ---- lemmas of arithmetic
 
 -- a list tells its last item and those before it
-snoc_same : (xs ys : List ℤ) (x y : ℤ) → xs ++ x ∷ [] ≡ ys ++ y ∷ [] → (xs ≡ ys) × (x ≡ y)
+pub snoc_same : {X : Type 0} (xs ys : List X) (x y : X) → xs ++ x ∷ [] ≡ ys ++ y ∷ [] → (xs ≡ ys) × (x ≡ y)
 snoc_same [] [] x y e = (refl, cc)
 snoc_same [] (b ∷ []) x y e = absurd cc
 snoc_same [] (b ∷ c ∷ ys) x y e = absurd cc
