@@ -1,6 +1,7 @@
 //! Kinds of types and of operators.
 
-ghost use Rattle.std.specs.Prelude.{◌≡◌, ◌↔◌, true};
+ghost use Rattle.std.specs.Prelude.{◌≡◌};
+ghost use Rattle.jesc_operands.specs.Deciding as deciding;
 ghost use Rattle.jesc_operands.specs.Operands as spec;
 
 use jesc_tree::{BinOp, Ty};
@@ -35,21 +36,21 @@ pub fn is_number(ty: Ty) -> bool
 
 /// Whether both are types of numbers.
 pub(crate) fn are_numbers(s: Ty, t: Ty) -> bool
-    ensures { (result ≡ true) ↔ ((spec.is_number s ≡ true) × (spec.is_number t ≡ true)) }
+    ensures { result ≡ deciding.are_numbers s t }
 {
     is_number(s) && is_number(t)
 }
 
 /// Whether it is the type of truth values.
 pub(crate) fn is_truth(ty: Ty) -> bool
-    ensures { (result ≡ true) ↔ (ty ≡ Ty.Bool) }
+    ensures { result ≡ deciding.is_truth ty }
 {
-    ty == Ty::Bool
+    matches!(ty, Ty::Bool)
 }
 
 /// Whether both are the type of truth values.
 pub(crate) fn are_truths(s: Ty, t: Ty) -> bool
-    ensures { (result ≡ true) ↔ ((s ≡ Ty.Bool) × (t ≡ Ty.Bool)) }
+    ensures { result ≡ deciding.are_truths s t }
 {
     is_truth(s) && is_truth(t)
 }
@@ -59,6 +60,20 @@ pub fn is_reference(ty: Ty) -> bool
     ensures { result ≡ spec.is_reference ty }
 {
     matches!(ty, Ty::Null | Ty::Ref(_) | Ty::Array(_))
+}
+
+/// Whether both are types of references.
+pub(crate) fn are_references(s: Ty, t: Ty) -> bool
+    ensures { result ≡ deciding.are_references s t }
+{
+    is_reference(s) && is_reference(t)
+}
+
+/// Whether there are values of the type.
+pub(crate) fn has_values(ty: Ty) -> bool
+    ensures { result ≡ deciding.has_values ty }
+{
+    !matches!(ty, Ty::Void)
 }
 
 /// Of two types of numbers that of what is computed with them (JLS 5.6).

@@ -1,16 +1,16 @@
 //! Which types operands may have, and the type of what is made of them.
 
-ghost use Rattle.std.specs.Prelude.{◌≡◌, ◌↔◌, ◌⊎◌, true, MatchOption, IfOk};
+ghost use Rattle.std.specs.Prelude.{◌≡◌, IfOk, IfSome};
 ghost use Rattle.std.specs.List.{All};
 ghost use Rattle.jesc_tree.specs.Ids.{ty_ids};
 ghost use Rattle.jesc_tree.specs.Programs.{IsInRange, IsLawful};
-ghost use Rattle.jesc_tree.specs.Subtypes.{Fits};
+ghost use Rattle.jesc_operands.specs.Deciding as deciding;
 ghost use Rattle.jesc_operands.specs.Operands as spec;
-ghost use Rattle.jesc_operands.specs.Operands.{AreEquable, AreRelated, Casts, Chooses, IsInterface, Makes, Turns};
 
 use crate::kinds::{
-    Kind, are_numbers, are_truths, is_number, is_reference, is_truth, kind_of, wider,
+    Kind, are_numbers, are_references, are_truths, is_number, is_truth, kind_of, wider,
 };
+use crate::subtypes::{fits, fits_as_value, is_interface};
 use jesc_text::OutOfMemory;
 use jesc_tree::{BinOp, Program, Ty, UnOp};
 use std::alloc::Global;
@@ -28,7 +28,8 @@ pub fn binary_type(
     requires lawful { IsLawful program.now.classes program.now.fields program.now.methods }
     requires left { All (IsInRange program.now.classes program.now.fields program.now.methods) (ty_ids left) }
     requires right { All (IsInRange program.now.classes program.now.fields program.now.methods) (ty_ids right) }
-    ensures { IfOk result (λ answer. MatchOption answer ((t : Ty) → Makes program.now.classes (spec.kind_of op) left right t → ⊥) (λ t. Makes program.now.classes (spec.kind_of op) left right t)) }
+    ensures made { IfOk result (λ answer. answer ≡ deciding.makes program.now.classes (spec.kind_of op) left right) }
+    ensures within { IfOk result (λ answer. IfSome answer (λ t. All (IsInRange program.now.classes program.now.fields program.now.methods) (ty_ids t))) }
 {
     match kind_of(op) {
         Kind::Arithmetic => Ok(are_numbers(left, right).then_some(wider(left, right))),
@@ -50,7 +51,7 @@ pub fn are_equable(
     requires lawful { IsLawful program.now.classes program.now.fields program.now.methods }
     requires left { All (IsInRange program.now.classes program.now.fields program.now.methods) (ty_ids left) }
     requires right { All (IsInRange program.now.classes program.now.fields program.now.methods) (ty_ids right) }
-    ensures { IfOk result (λ yes. (yes ≡ true) ↔ AreEquable program.now.classes left right) }
+    ensures { IfOk result (λ yes. yes ≡ deciding.are_equable program.now.classes left right) }
 {
     if are_numbers(left, right) {
         return Ok(true);
@@ -68,7 +69,7 @@ pub fn may_cast(alloc: Global, program: &Program, from: Ty, to: Ty) -> Result<bo
     requires lawful { IsLawful program.now.classes program.now.fields program.now.methods }
     requires from { All (IsInRange program.now.classes program.now.fields program.now.methods) (ty_ids from) }
     requires to { All (IsInRange program.now.classes program.now.fields program.now.methods) (ty_ids to) }
-    ensures { IfOk result (λ yes. (yes ≡ true) ↔ Casts program.now.classes from to) }
+    ensures { IfOk result (λ yes. yes ≡ deciding.may_cast program.now.classes from to) }
 {
     if are_numbers(from, to) {
         return Ok(true);
@@ -88,34 +89,24 @@ pub fn are_related(
     requires lawful { IsLawful program.now.classes program.now.fields program.now.methods }
     requires left { All (IsInRange program.now.classes program.now.fields program.now.methods) (ty_ids left) }
     requires right { All (IsInRange program.now.classes program.now.fields program.now.methods) (ty_ids right) }
-    ensures { IfOk result (λ yes. (yes ≡ true) ↔ AreRelated program.now.classes left right) }
+    ensures { IfOk result (λ yes. yes ≡ deciding.are_related program.now.classes left right) }
 {
-    if !is_reference(left) || !is_reference(right) {
+    if !are_references(left, right) {
         return Ok(false);
     }
     if is_interface(program, left) || is_interface(program, right) {
         return Ok(true);
     }
-    if program.fits(alloc, left, right)? {
+    if fits(alloc, program, left, right)? {
         return Ok(true);
     }
-    program.fits(alloc, right, left)
-}
-
-/// Whether the type is an interface. Takes no memory.
-fn is_interface(program: &Program, ty: Ty) -> bool
-    requires { All (IsInRange program.now.classes program.now.fields program.now.methods) (ty_ids ty) }
-    ensures { (result ≡ true) ↔ IsInterface program.now.classes ty }
-{
-    match ty {
-        Ty::Ref(class) => program.classes()[class.0 as usize].is_interface,
-        Ty::Void | Ty::Null | Ty::Int | Ty::Long | Ty::Bool | Ty::Array(_) => false,
-    }
+    fits(alloc, program, right, left)
 }
 
 /// The type of what the operator makes of an operand of this type, if it may be its operand (JLS 15.15). Takes no memory.
 pub fn unary_type(op: UnOp, ty: Ty) -> Option<Ty>
-    ensures { MatchOption result ((t : Ty) → Turns op ty t → ⊥) (λ t. Turns op ty t) }
+    ensures made { result ≡ deciding.turns op ty }
+    ensures same { IfSome result (λ t. t ≡ ty) }
 {
     match op {
         UnOp::Minus | UnOp::Plus => is_number(ty).then_some(ty),
@@ -135,7 +126,8 @@ pub fn choice_type(
     requires lawful { IsLawful program.now.classes program.now.fields program.now.methods }
     requires first { All (IsInRange program.now.classes program.now.fields program.now.methods) (ty_ids first) }
     requires second { All (IsInRange program.now.classes program.now.fields program.now.methods) (ty_ids second) }
-    ensures { IfOk result (λ answer. MatchOption answer ((t : Ty) → Chooses program.now.classes first second t → ⊥) (λ t. Chooses program.now.classes first second t)) }
+    ensures chosen { IfOk result (λ answer. answer ≡ deciding.chooses program.now.classes first second) }
+    ensures within { IfOk result (λ answer. IfSome answer (λ t. All (IsInRange program.now.classes program.now.fields program.now.methods) (ty_ids t))) }
 {
     if are_numbers(first, second) {
         return Ok(Some(wider(first, second)));
@@ -144,18 +136,4 @@ pub fn choice_type(
         return Ok(Some(second));
     }
     Ok(fits_as_value(alloc, program, second, first)?.then_some(first))
-}
-
-/// Whether a value of the first type may stand where one of the second is wanted: of `void` there is none.
-///
-/// Answers `OutOfMemory` where there is no room for a walk over supertypes.
-fn fits_as_value(alloc: Global, program: &Program, from: Ty, to: Ty) -> Result<bool, OutOfMemory>
-    requires lawful { IsLawful program.now.classes program.now.fields program.now.methods }
-    requires from { All (IsInRange program.now.classes program.now.fields program.now.methods) (ty_ids from) }
-    ensures { IfOk result (λ yes. (yes ≡ true) ↔ ((to ≡ Ty.Void → ⊥) × Fits program.now.classes from to)) }
-{
-    if to == Ty::Void {
-        return Ok(false);
-    }
-    program.fits(alloc, from, to)
 }
