@@ -1,5 +1,5 @@
 -- A comparison is read as one truth at most, and so a lemma of two terms has one list of truths, and literals one list of rows.
-use Rattle.std.proofs.Common.{◌≡◌, ℕ, zero, suc, ◌<◌, List, [], ◌∷◌, ◌++◌, ℤ, pos, negsuc, Some, slice_get, inl, inr, refl, sym, ap, ◌∙◌, subst, arith}
+use Rattle.std.proofs.Common.{◌≡◌, ℕ, zero, suc, List, [], ◌∷◌, ◌++◌, ℤ, pos, negsuc, Some, slice_get, inl, inr, refl, sym, ap, ◌∙◌, subst, arith}
 use Rattle.std.proofs.lemmas.Bool.{cases_lt}
 use Rattle.jesc_linear.specs.declared.rows.Row.{Row}
 use Rattle.jesc_clauses.specs.declared.atom.Atom.{Atom}
@@ -8,7 +8,7 @@ use Rattle.jesc_clauses.specs.declared.clause.Opaque.{Opaque}
 use Rattle.jesc_clauses.specs.declared.normal.Normal.{Normal}
 use Rattle.jesc_clauses.specs.declared.normal.Normal.TheVariants as normal
 use Rattle.jesc_clauses.specs.declared.builder.Truth.{Truth}
-use Rattle.jesc_clauses.specs.declared.builder.Truth.TheVariants.{Constant, Literal}
+use Rattle.jesc_clauses.specs.declared.builder.Truth.TheVariants.{Literal}
 use Rattle.jesc_clauses.specs.Builders.{turned}
 use Rattle.jesc_clauses.proofs.OneNormal.{same_comparison}
 use Rattle.jesc_accept.specs.Lemmas.{IsFirstOf, ReadsNormal, ReadsAtMost, Differ, IsCongruence, IsRowOf, AreRowsOf}

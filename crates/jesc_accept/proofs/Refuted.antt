@@ -1,5 +1,5 @@
 -- No structure makes formulas true whose clauses have an accepted certificate.
-use Rattle.std.proofs.Common.{◌≡◌, ℕ, zero, suc, Bool, true, false, List, [], ◌∷◌, map, ℤ, ◌+ℤ◌, ◌*ℤ◌, refl, sym, ap, ◌∙◌, subst}
+use Rattle.std.proofs.Common.{◌≡◌, ℕ, zero, suc, Bool, true, false, List, [], ◌∷◌, map, ℤ, ◌+ℤ◌, ◌*ℤ◌, refl, sym, ap, ◌∙◌}
 use Rattle.std.proofs.lemmas.List.Elements.{All-weaker}
 use Rattle.std.specs.Prelude.{All, IsTrue, ◌&&◌, ◌||◌, not, if◌then◌else◌}
 use Rattle.jesc_cert.specs.declared.cert.CertLine.{CertLine}
@@ -8,7 +8,7 @@ use Rattle.jesc_logic.specs.Claims.{Claim, truth, falsity, at_most, equal, negat
 use Rattle.jesc_logic.specs.Structures.{Structure, read, of_two, value, holds, is_true}
 use Rattle.jesc_clauses.specs.declared.clause.Clauses.{Clauses}
 use Rattle.jesc_clauses.specs.Clausified.{IsClausified}
-use Rattle.jesc_clauses.specs.Readings.{is_number, is_opaque, is_opaque_of_two, sum_or_product, reading, arguments, HaveSymbol, IsCongruent, IsModel}
+use Rattle.jesc_clauses.specs.Readings.{is_number, reading, arguments, HaveSymbol, IsCongruent, IsModel}
 use Rattle.jesc_accept.specs.Verdicts.{IsAccepted}
 use Rattle.jesc_accept.proofs.Sound.{sound}
 

@@ -1,5 +1,5 @@
 -- When lines of atoms, lemmas of arithmetic and steps are taken.
-use Rattle.std.proofs.Common.{◌≡◌, ℕ, suc, ◌<◌, ◌≤◌, ◌^◌, ℤ, pos, negsuc, List, [], ◌∷◌, ◌++◌, length, refl, sym, ap, ◌∙◌, subst, arith, All, append_assoc, Some, None, true, false}
+use Rattle.std.proofs.Common.{◌≡◌, ℕ, suc, ◌<◌, ◌≤◌, ◌^◌, ℤ, pos, negsuc, List, [], ◌∷◌, ◌++◌, length, refl, sym, ap, ◌∙◌, subst, arith, All, Some, None, true, false}
 use Rattle.std.specs.Prelude.{unsigned_abs, slice_get, Option, ◌≤ℤ◌}
 use Rattle.std.proofs.lemmas.Int.{ints}
 use Rattle.std.proofs.lemmas.List.{append-nil}
@@ -48,14 +48,13 @@ not_normal old new ns row is wrong s tree m =
     let e : sum_numbers r.a.bound r.a.form ≡ sum_numbers row.bound row.form = sym r.are ∙ is.are in
     wrong (subst IsNormal (same_form _ _ _ _ e) r.normal, subst (λ (b : ℤ). unsigned_abs b ≤ 2 ^ 94) (same_bound _ _ _ _ e) r.narrow.small)
 
-pub takes_atom : (old new : Tables) (ns : List ℤ) (row : Row) (further : List Atom) → old.due ≡ 0 → further ≡ old.further ++ record { form = row.form; bound = row.bound } ∷ []
-    → new ≡ record { clauses = old.clauses; further = further; lemmas = old.lemmas; rows = []; negated = []; due = 0 }
+pub takes_atom : (old new : Tables) (ns : List ℤ) (row : Row) (atoms : List Atom) → old.due ≡ 0 → atoms ≡ old.atoms ++ record { form = row.form; bound = row.bound } ∷ []
+    → new ≡ record { clauses = old.clauses; atoms = atoms; lemmas = old.lemmas; rows = []; negated = []; due = 0 }
     → IsSumOf (length old.clauses.now.terms) ns row → IsNormal row.form × (unsigned_abs row.bound ≤ 2 ^ 94) → Takes old (line_of T ns) new true
-takes_atom old new ns row further due pushed made is normal =
+takes_atom old new ns row atoms due pushed made is normal =
     let a : Atom = record { form = row.form; bound = row.bound } in
-    let atoms : (old.clauses.now.atoms ++ old.further) ++ a ∷ [] ≡ old.clauses.now.atoms ++ further = append_assoc old.clauses.now.atoms old.further (a ∷ []) ∙ ap (λ (xs : List Atom). old.clauses.now.atoms ++ xs) (sym pushed) in
     subst (λ (n : Tables). Takes old (line_of T ns) n true) (sym made)
-    (refl, subst (λ (all : List Atom). Moves old.clauses.now (state_of old) (line_of T ns) (record { atoms = all; lemmas = old.lemmas; rows = []; negated = []; due = 0; in_tree = false; ends = [] })) atoms (atom (state_of old) (line_of T ns) a due refl refl is.are normal.0 (record { within = is.narrow; small = normal.1 }) is.there))
+    (refl, subst (λ (all : List Atom). Moves old.clauses.now (state_of old) (line_of T ns) (record { atoms = all; lemmas = old.lemmas; rows = []; negated = []; due = 0; in_tree = false; ends = [] })) (sym pushed) (atom (state_of old) (line_of T ns) a due refl refl is.are normal.0 (record { within = is.narrow; small = normal.1 }) is.there))
 
 -- ---- steps
 
@@ -98,7 +97,7 @@ wrong_step old new ns l is wrong s tree m =
 
 -- the tables with these rows of the open lemma, and so many steps due
 abbrev pub stepped : Tables → List Row → ℕ → Tables
-stepped t rows due = record { clauses = t.clauses; further = t.further; lemmas = t.lemmas; rows = rows; negated = t.negated; due = due }
+stepped t rows due = record { clauses = t.clauses; atoms = t.atoms; lemmas = t.lemmas; rows = rows; negated = t.negated; due = due }
 
 pub takes_step : (old : Tables) (ns : List ℤ) (l : LinStep) (rows : List Row) (n m : ℕ) → IsStepOf (length old.clauses.now.terms) ns l → DerivesFrom (slice_get old.rows l.i) (slice_get old.rows l.j) l
     → old.due ≡ suc (suc n) → m ≡ suc n → rows ≡ old.rows ++ l.row ∷ [] → Takes old (line_of Q ns) (stepped old rows m) true
@@ -107,7 +106,7 @@ takes_step old ns l rows n m is derives due less pushed =
     (refl, subst (λ (rs : List Row). Moves old.clauses.now (state_of old) (line_of Q ns) (record { atoms = atoms_of old; lemmas = old.lemmas; rows = rs; negated = old.negated; due = suc n; in_tree = false; ends = [] })) (sym pushed) (step (state_of old) (line_of Q ns) n l due refl is.are (is.first, is.second) is.there derives))
 
 pub takes_last : (old new : Tables) (ns : List ℤ) (l : LinStep) (lemmas : List (Option (List ℤ))) → IsStepOf (length old.clauses.now.terms) ns l → DerivesFrom (slice_get old.rows l.i) (slice_get old.rows l.j) l
-    → IsAbsurd l → old.due ≡ 1 → lemmas ≡ old.lemmas ++ Some old.negated ∷ [] → new ≡ record { clauses = old.clauses; further = old.further; lemmas = lemmas; rows = []; negated = []; due = 0 } → Takes old (line_of Q ns) new true
+    → IsAbsurd l → old.due ≡ 1 → lemmas ≡ old.lemmas ++ Some old.negated ∷ [] → new ≡ record { clauses = old.clauses; atoms = old.atoms; lemmas = lemmas; rows = []; negated = []; due = 0 } → Takes old (line_of Q ns) new true
 takes_last old new ns l lemmas is derives ends due pushed made =
     subst (λ (t : Tables). Takes old (line_of Q ns) t true) (sym made)
     (refl, subst (λ (ls : List (Option (List ℤ))). Moves old.clauses.now (state_of old) (line_of Q ns) (record { atoms = atoms_of old; lemmas = ls; rows = []; negated = []; due = 0; in_tree = false; ends = [] })) (sym pushed) (last (state_of old) (line_of Q ns) l due refl is.are (is.first, is.second) is.there derives ends))
@@ -147,7 +146,7 @@ too_short old new ns h s tree m =
     omega arith
 
 pub takes_lemma : (old new : Tables) (ns : List ℤ) (ls : List ℤ) (rows : List Row) (negated : List ℤ) (steps : ℕ) → ns ≡ pos (length ls) ∷ (ls ++ pos steps ∷ []) → old.due ≡ 0 → 0 < steps
-    → HaveRows (atoms_of old) ls rows → negated ≡ negations ls → new ≡ record { clauses = old.clauses; further = old.further; lemmas = old.lemmas; rows = rows; negated = negated; due = steps } → Takes old (line_of R ns) new true
+    → HaveRows (atoms_of old) ls rows → negated ≡ negations ls → new ≡ record { clauses = old.clauses; atoms = old.atoms; lemmas = old.lemmas; rows = rows; negated = negated; due = steps } → Takes old (line_of R ns) new true
 takes_lemma old new ns ls rows negated steps n due some have are made =
     subst (λ (t : Tables). Takes old (line_of R ns) t true) (sym made)
     (refl, subst (λ (ks : List ℤ). Moves old.clauses.now (state_of old) (line_of R ns) (record { atoms = atoms_of old; lemmas = old.lemmas; rows = rows; negated = ks; due = steps; in_tree = false; ends = [] })) (sym are) (linear (state_of old) (line_of R ns) ls rows steps due refl refl n some have.are))

@@ -7,3 +7,5 @@ pub mod Standings
 pub mod Congruences
 pub mod Numbers
 pub mod Rows
+pub mod Marks
+pub mod Atoms

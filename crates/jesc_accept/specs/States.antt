@@ -13,7 +13,7 @@ use Rattle.jesc_accept.specs.Moves.{State, Moves}
 -- ---- tables
 
 abbrev pub atoms_of : Tables → List Atom
-atoms_of t = t.clauses.now.atoms ++ t.further
+atoms_of t = t.atoms
 
 abbrev pub state_of : Tables → State
 state_of t = record { atoms = atoms_of t; lemmas = t.lemmas; rows = t.rows; negated = t.negated; due = t.due; in_tree = false; ends = [] }

@@ -90,14 +90,8 @@ impl<'a> Tables<'a> {
         ensures is { option_copied result ≡ slice_get (atoms_of self.now) number }
         ensures short { IsShortWhere (option_copied result) (pos (suc number)) }
     {
-        let own = self.clauses.atoms.as_slice();
-        let further = self.further.as_slice();
-        if number < own.len() as u128 {
-            return Some(&own[number as usize]);
-        }
-        let number = number - own.len() as u128;
-        if number < further.len() as u128 {
-            Some(&further[number as usize])
+        if number < self.atoms.len() as u128 {
+            self.atoms.get(number as usize)
         } else {
             None
         }
@@ -130,7 +124,7 @@ impl<'a> Tables<'a> {
 
     /// Leaves no lemma open. Takes no memory.
     pub(crate) fn end_lemma(&mut self, alloc: Global)
-        ensures { self.new ≡ record { clauses = self.old.clauses; further = self.old.further; lemmas = self.old.lemmas; rows = []; negated = []; due = 0 } }
+        ensures { self.new ≡ record { clauses = self.old.clauses; atoms = self.old.atoms; lemmas = self.old.lemmas; rows = []; negated = []; due = 0 } }
     {
         self.rows = List::new(alloc);
         self.negated = List::new(alloc);

@@ -12,7 +12,7 @@ ghost use Rattle.jesc_accept.specs.Lemmas.{IsFirstOf, ReadsNormal, ReadsAtMost, 
 ghost use Rattle.jesc_accept.specs.States.{Takes, line_of, atoms_of};
 
 use crate::tables::Tables;
-use jesc_clauses::{Atom, ClauseError, Lin, Normal, Opaque, at_most};
+use jesc_clauses::{ClauseError, Lin, Normal, Opaque, at_most};
 use jesc_linear::is_form;
 use jesc_text::{List, OutOfMemory};
 use std::alloc::Global;
@@ -93,57 +93,6 @@ fn is_lin(lin: &Lin) -> bool
     lin.constant.unsigned_abs() <= 1 << 94
 }
 
-/// Whether the two are one part.
-fn is_same_part(part: &(i64, u32), other: &(i64, u32)) -> bool
-    ensures { IsTrue result ↔ (part.now ≡ other.now) }
-{
-    part.0 == other.0 && part.1 == other.1
-}
-
-/// Whether the two are one form.
-fn is_same_form(form: &[(i64, u32)], other: &[(i64, u32)]) -> bool
-    ensures { IsTrue result ↔ (form.now ≡ other.now) }
-{
-    if form.len() != other.len() {
-        return false;
-    }
-    for at in 0..form.len() {
-        if !is_same_part(&form[at], &other[at]) {
-            return false;
-        }
-    }
-    true
-}
-
-/// Whether the two are one bound.
-fn is_same_bound(bound: &i128, other: &i128) -> bool
-    ensures { IsTrue result ↔ (bound.now ≡ other.now) }
-{
-    *bound == *other
-}
-
-/// Whether the two are one atom.
-fn is_same(atom: &Atom, other: &Atom) -> bool
-    ensures { IsTrue result ↔ (atom.now ≡ other.now) }
-{
-    if !is_same_bound(&atom.bound, &other.bound) {
-        return false;
-    }
-    is_same_form(atom.form.as_slice(), other.form.as_slice())
-}
-
-/// The smallest number of the atom, from 0.
-fn find(atoms: &[Atom], atom: &Atom) -> Option<usize>
-    ensures { MatchOption result ((k : ℕ) → slice_get atoms.now k ≡ Some atom.now → ⊥) (IsFirstOf atoms.now atom.now) }
-{
-    for number in 0..atoms.len() {
-        if is_same(&atoms[number], atom) {
-            return Some(number);
-        }
-    }
-    None
-}
-
 /// The sum of one term.
 fn single(alloc: Global, term: u32) -> Result<Lin, OutOfMemory>
     ensures { IfOk result (λ lin. lin ≡ one term) }
@@ -154,31 +103,17 @@ fn single(alloc: Global, term: u32) -> Result<Lin, OutOfMemory>
 }
 
 impl<'a> Tables<'a> {
-    /// The smallest number that the atom has in the table, from 0.
-    fn number_of(&self, atom: &Atom) -> Option<usize>
-        ensures { MatchOption result ((k : ℕ) → slice_get (atoms_of self.now) k ≡ Some atom.now → ⊥) (IsFirstOf (atoms_of self.now) atom.now) }
-    {
-        let own = self.clauses.atoms.as_slice();
-        match find(own, atom) {
-            Some(number) => Some(number),
-            None => match find(self.further.as_slice(), atom) {
-                Some(number) => Some(own.len() + number),
-                None => None,
-            },
-        }
-    }
-
     /// What a normal form says, where the table has its atom.
     fn read_normal(&self, normal: &Normal) -> Option<Said>
         ensures { MatchOption result ((t : Truth) → ReadsNormal (atoms_of self.now) normal.now t → ⊥) (λ said. ReadsNormal (atoms_of self.now) normal.now (truth_of said)) }
     {
         match normal {
             Normal::Constant(truth) => Some(Said::Constant(*truth)),
-            Normal::Holds(atom) => match self.number_of(atom) {
+            Normal::Holds(atom) => match self.atoms.find(atom) {
                 Some(number) => Some(Said::Is(number)),
                 None => None,
             },
-            Normal::Fails(atom) => match self.number_of(atom) {
+            Normal::Fails(atom) => match self.atoms.find(atom) {
                 Some(number) => Some(Said::Isnt(number)),
                 None => None,
             },

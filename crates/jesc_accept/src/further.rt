@@ -25,7 +25,7 @@ impl<'a> Tables<'a> {
         if !is_atom(&row) {
             return Ok(false);
         }
-        self.further.push(Atom {
+        self.atoms.push(Atom {
             form: row.form,
             bound: row.bound,
         })?;

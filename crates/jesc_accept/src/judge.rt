@@ -125,9 +125,7 @@ fn go_over(
 fn root_of(alloc: Global, tables: &Tables) -> Result<Tree, OutOfMemory>
     ensures { IfOk result (λ tree. branches_of tree ≡ root (length (atoms_of tables.now)) ∷ []) }
 {
-    let own = tables.clauses.atoms.as_slice();
-    let further = tables.further.as_slice();
-    Tree::new(alloc, own.len() + further.len())
+    Tree::new(alloc, tables.atoms.len())
 }
 
 /// The first line that doesn't fit, or the number of lines where the tree isn't closed.
@@ -138,7 +136,7 @@ fn first_bad(
 ) -> Result<Option<usize>, OutOfMemory>
     ensures { IfOk result (λ answer. MatchOption answer (IsAccepted clauses.now lines.now) (IsFirstBad clauses.now lines.now)) }
 {
-    let mut tables = Tables::new(alloc, clauses);
+    let mut tables = Tables::new(alloc, clauses)?;
     match take_front(alloc, &mut tables, lines)? {
         Front::Bad { at } => Ok(Some(at)),
         Front::Ends { at } => {

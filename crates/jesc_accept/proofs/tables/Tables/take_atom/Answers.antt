@@ -15,5 +15,5 @@ pub returns : goal.returns
 returns c =
     let h = rw c.in-Some.is at c.in_ok-row.ensures in
     let fits : FitsSigned w128 c.in-Some.row.bound = search rules in
-    let same = ap (λ (b : ℤ). c.args.self.now.further ++ record { form = c.in-Some.row.form; bound = b } ∷ []) (to_z-of_z w128 c.in-Some.row.bound fits) in
-    takes_atom c.args.self.now _ c.args.numbers.now c.in-Some.row _ c.requires (c.in_ok-push.ensures.ok ∙ same) c.end_lemma.ensures (subst (λ (n : ℕ). IsSumOf n c.args.numbers.now c.in-Some.row) c.len.ensures h) (c.is_atom.ensures.0 c.if-not-is_atom.false)
+    let same = ap (λ (b : ℤ). c.args.self.now.atoms ++ record { form = c.in-Some.row.form; bound = b } ∷ []) (to_z-of_z w128 c.in-Some.row.bound fits) in
+    takes_atom c.args.self.now _ c.args.numbers.now c.in-Some.row _ c.requires (c.in_ok-push.ensures ∙ same) c.end_lemma.ensures (subst (λ (n : ℕ). IsSumOf n c.args.numbers.now c.in-Some.row) c.len.ensures h) (c.is_atom.ensures.0 c.if-not-is_atom.false)
