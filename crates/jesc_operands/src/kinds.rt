@@ -16,7 +16,7 @@ pub enum Kind {
 }
 
 /// The kind of the operator.
-pub(crate) fn kind_of(op: BinOp) -> Kind
+pub fn kind_of(op: BinOp) -> Kind
     ensures { result ≡ spec.kind_of op }
 {
     match op {
@@ -42,7 +42,7 @@ pub(crate) fn are_numbers(s: Ty, t: Ty) -> bool
 }
 
 /// Whether it is the type of truth values.
-pub(crate) fn is_truth(ty: Ty) -> bool
+pub fn is_truth(ty: Ty) -> bool
     ensures { result ≡ deciding.is_truth ty }
 {
     matches!(ty, Ty::Bool)
@@ -70,7 +70,7 @@ pub(crate) fn are_references(s: Ty, t: Ty) -> bool
 }
 
 /// Whether there are values of the type.
-pub(crate) fn has_values(ty: Ty) -> bool
+pub fn has_values(ty: Ty) -> bool
     ensures { result ≡ deciding.has_values ty }
 {
     !matches!(ty, Ty::Void)

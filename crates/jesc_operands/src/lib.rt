@@ -13,7 +13,7 @@ mod law;
 mod operands;
 mod subtypes;
 
-pub use kinds::{Kind, is_number, is_reference};
+pub use kinds::{Kind, has_values, is_number, is_reference, is_truth, kind_of};
 pub use law::{
     cast_is_decided, chooses_is_decided, equable_is_decided, fits_is_decided, makes_is_decided,
     related_is_decided, throwable_is_decided, turns_is_decided,

@@ -1,0 +1,5 @@
+pub mod Written
+pub mod Known
+pub mod Fields
+pub mod Calls
+pub mod Creations
