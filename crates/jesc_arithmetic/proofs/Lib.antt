@@ -1,0 +1,11 @@
+pub mod Tests
+pub mod Products
+pub mod Quotients
+pub mod Truths
+pub mod TrueFacts
+pub mod Saying
+pub mod Listing
+pub mod Gathering
+pub mod Sameness
+pub mod Walked
+pub mod Standing

@@ -1,0 +1,6 @@
+-- The items of a list, each once, where it stands first.
+use Rattle.std.specs.Prelude.{Bool, not, List, [], ◌∷◌, filter}
+
+abbrev pub firsts : {T : Type 0} → (T → T → Bool) → List T → List T
+firsts same [] = []
+firsts same (x ∷ xs) = x ∷ filter (λ y. not (same x y)) (firsts same xs)
