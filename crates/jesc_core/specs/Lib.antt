@@ -1,0 +1,9 @@
+pub mod Trees
+pub mod Fields
+pub mod Proper
+pub mod Heaps
+pub mod Values
+pub mod Runs
+pub mod Walks
+pub mod Counts
+pub mod laws
