@@ -3,17 +3,18 @@
 use jesc_text::read_number;
 use std::alloc::Global;
 
-/// Which lines may come next.
-#[derive(Drop, Clone, Copy, PartialEq, Eq)]
-enum Stage {
+/// What a line is.
+#[derive(Drop, Clone, Copy)]
+enum Kind {
     Version,
     Rounds,
-    Blocks,
-    Lines,
-    Nothing,
+    Condition,
+    Line,
+    End,
+    Other,
 }
 
-/// Whether there are so many numbers and, behind them, a count with so many times as many, and then so many more.
+/// Whether behind so many numbers stands a count, and behind it so many times as many and so many more.
 fn has_count(numbers: &[i128], before: usize, times: i128, more: i128) -> bool {
     match numbers.get(before) {
         Some(count) => {
@@ -24,7 +25,7 @@ fn has_count(numbers: &[i128], before: usize, times: i128, more: i128) -> bool {
     }
 }
 
-/// Whether the word and the numbers are a line of a certificate.
+/// Whether the letter and the numbers are a line of a certificate.
 fn is_line(letter: &[u8], numbers: &[i128]) -> bool {
     match letter {
         b"t" => has_count(numbers, 1, 2, 0),
@@ -32,24 +33,6 @@ fn is_line(letter: &[u8], numbers: &[i128]) -> bool {
         b"r" => has_count(numbers, 0, 1, 1),
         b"q" => has_count(numbers, 6, 2, 0),
         b"s" | b"c" | b"m" => numbers.len() == 1,
-        _ => false,
-    }
-}
-
-/// Whether the number is from 0 to the most.
-fn is_up_to(word: &[u8], most: i128) -> bool {
-    match read_number(word) {
-        Some(number) => 0 <= number && number <= most,
-        None => false,
-    }
-}
-
-/// Whether these words begin a certificate.
-fn is_condition(words: &[&[u8]]) -> bool {
-    match words {
-        [first, name, number] => {
-            *first == b"cond".as_slice() && !name.is_empty() && is_up_to(number, u32::MAX as i128)
-        }
         _ => false,
     }
 }
@@ -63,69 +46,71 @@ fn numbers_of(alloc: Global, words: &[&[u8]]) -> Option<Vec<i128>> {
     Some(numbers)
 }
 
-/// Whether these words are a line of a certificate.
-fn are_line(alloc: Global, words: &[&[u8]]) -> bool {
-    match words {
-        [letter, rest @ ..] => match numbers_of(alloc, rest) {
-            Some(numbers) => is_line(letter, &numbers),
-            None => false,
-        },
-        [] => false,
+/// Whether the word is a number from 0 to the most.
+fn is_up_to(word: &[u8], most: i128) -> bool {
+    match read_number(word) {
+        Some(number) => 0 <= number && number <= most,
+        None => false,
     }
 }
 
-/// The words between single spaces.
-fn words_of(alloc: Global, line: &[u8]) -> Vec<&[u8]> {
+/// What a line of these words is.
+fn kind_of(alloc: Global, words: &[&[u8]]) -> Kind {
+    match words {
+        [b"jescert", b"1"] => Kind::Version,
+        [b"rounds", rounds] if is_up_to(rounds, 5) => Kind::Rounds,
+        [b"cond", name, number] if !name.is_empty() && is_up_to(number, u32::MAX as i128) => {
+            Kind::Condition
+        }
+        [b"end"] => Kind::End,
+        [letter, rest @ ..] => match numbers_of(alloc, rest) {
+            Some(numbers) if is_line(letter, &numbers) => Kind::Line,
+            _ => Kind::Other,
+        },
+        [] => Kind::Other,
+    }
+}
+
+/// Whether a line may stand behind another, or be the first.
+fn may_follow(last: Option<Kind>, kind: Kind) -> bool {
+    match kind {
+        Kind::Version => matches!(last, None),
+        Kind::Rounds => matches!(last, Some(Kind::Version)),
+        Kind::Line => matches!(last, Some(Kind::Condition | Kind::Line)),
+        Kind::Condition | Kind::End => {
+            matches!(last, Some(Kind::Rounds | Kind::Condition | Kind::Line))
+        }
+        Kind::Other => false,
+    }
+}
+
+/// What a line is, from its words between single spaces.
+fn line_kind(alloc: Global, line: &[u8]) -> Kind {
     let mut words = Vec::new(alloc);
     for word in line.split(|byte| *byte == b' ') {
         let _done = words.push(word).is_ok();
     }
-    words
-}
-
-/// Which lines may come behind this one, if it may come here.
-fn behind(alloc: Global, stage: Stage, line: &[u8]) -> Option<Stage> {
-    let words = words_of(alloc, line);
-    match stage {
-        Stage::Version => match words.as_slice() {
-            [b"jescert", b"1"] => Some(Stage::Rounds),
-            _ => None,
-        },
-        Stage::Rounds => match words.as_slice() {
-            [b"rounds", rounds] if is_up_to(rounds, 5) => Some(Stage::Blocks),
-            _ => None,
-        },
-        Stage::Nothing => None,
-        _ => {
-            if line == b"end".as_slice() {
-                return Some(Stage::Nothing);
-            }
-            let fits = is_condition(&words) || stage == Stage::Lines && are_line(alloc, &words);
-            if fits { Some(Stage::Lines) } else { None }
-        }
-    }
+    kind_of(alloc, &words)
 }
 
 /// The first line, from 1, that can't be continued, or 0 where the bytes are a file of certificates.
 pub fn bad_line(alloc: Global, bytes: &[u8]) -> u32 {
-    let mut stage = Stage::Version;
+    let mut last = None;
     let mut number = 1u32;
     let mut line = Vec::new(alloc);
     for byte in bytes {
-        if *byte == b'\n' {
-            match behind(alloc, stage, &line) {
-                Some(next) => stage = next,
-                None => return number,
-            }
-            number = number.saturating_add(1);
-            line.clear();
-        } else {
+        if *byte != b'\n' {
             let _done = line.push(*byte).is_ok();
+            continue;
         }
+        let kind = line_kind(alloc, &line);
+        if !may_follow(last, kind) {
+            return number;
+        }
+        last = Some(kind);
+        number = number.saturating_add(1);
+        line.clear();
     }
-    if stage == Stage::Nothing && line.is_empty() {
-        0
-    } else {
-        number
-    }
+    let is_whole = matches!(last, Some(Kind::End)) && line.is_empty();
+    if is_whole { 0 } else { number }
 }

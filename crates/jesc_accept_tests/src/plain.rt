@@ -3,36 +3,30 @@
 use crate::sums::{MOST_COEFFICIENT, Sum, TERMS, sum_of};
 use jesc_accept::Accept;
 use jesc_cert::{CertKind, CertLine};
-use jesc_clauses::{Clauses, Lin};
+use jesc_clauses::{Clause, Clauses, Lin, Opaque};
 use std::alloc::Global;
 use std::mem;
 
-/// What a comparison says, by the table of atoms.
+/// What a comparison says: a constant, or the literal of an atom in the table.
 #[derive(Drop, Clone, Copy)]
 enum Said {
     Constant(bool),
     Literal(i128),
 }
 
-/// The literals of which one holds, unless the lemma is true by itself.
-#[derive(Drop)]
-struct Lemma {
-    literals: Vec<i128>,
-    is_true: bool,
-}
-
 /// What the lines so far have made.
 #[derive(Drop)]
 struct Reading<'a> {
     alloc: Global,
-    clauses: &'a Clauses,
+    terms: &'a [Opaque],
+    clauses: Vec<Vec<Said>>,
     atoms: Vec<Sum>,
-    lemmas: Vec<Lemma>,
+    lemmas: Vec<Vec<Said>>,
     /// Of the open lemma of arithmetic, the rows, the negations of its literals, and how many steps are due.
     rows: Vec<Sum>,
-    negations: Vec<i128>,
+    negations: Vec<Said>,
     due: i128,
-    /// Whether the tree has begun, and the literals that are true on each open branch, the next one last.
+    /// Whether the tree has begun, and the literals that are true on each open branch, the next branch last.
     in_tree: bool,
     branches: Vec<Vec<i128>>,
 }
@@ -42,18 +36,29 @@ fn put<T: Drop>(items: &mut Vec<T>, item: T) {
     let _done = items.push(item).is_ok();
 }
 
-/// The place of the number, where there are so many.
-fn place(number: i128, count: usize) -> Option<usize> {
-    if 0 <= number && number < count as i128 {
-        Some(number as usize)
+/// The item of the number, from 0.
+fn item<T>(items: &[T], number: i128) -> Option<&T> {
+    if 0 <= number && number < items.len() as i128 {
+        Some(&items[number as usize])
     } else {
         None
     }
 }
 
-/// The item of the number, from 0.
-fn item<T>(items: &[T], number: i128) -> Option<&T> {
-    items.get(place(number, items.len())?)
+fn negation(said: Said) -> Said {
+    match said {
+        Said::Constant(truth) => Said::Constant(!truth),
+        Said::Literal(literal) => Said::Literal(literal.wrapping_neg()),
+    }
+}
+
+/// The literals of a clause.
+fn literals_of(alloc: Global, clause: &Clause) -> Vec<Said> {
+    let mut literals = Vec::new(alloc);
+    for literal in clause.as_slice() {
+        put(&mut literals, Said::Literal(*literal as i128));
+    }
+    literals
 }
 
 /// The sum of an argument.
@@ -96,10 +101,17 @@ fn read_sum(terms: usize, numbers: &[i128]) -> Option<Sum> {
     if sum.is_narrow() { Some(sum) } else { None }
 }
 
-/// Whether the literals are all false where these are true.
-fn are_false(branch: &[i128], literals: &[i128]) -> bool {
-    for literal in literals {
-        if !branch.contains(&literal.wrapping_neg()) {
+/// Whether the list of this number is there, and all that it says is false where these literals are true.
+fn is_leaf(lists: &[Vec<Said>], number: i128, branch: &[i128]) -> bool {
+    let Some(list) = item(lists, number) else {
+        return false;
+    };
+    for said in list {
+        let is_false = match negation(*said) {
+            Said::Constant(truth) => truth,
+            Said::Literal(literal) => branch.contains(&literal),
+        };
+        if !is_false {
             return false;
         }
     }
@@ -117,15 +129,20 @@ fn with(alloc: Global, branch: &[i128], literal: i128) -> Vec<i128> {
 }
 
 impl<'a> Reading<'a> {
-    fn new(alloc: Global, clauses: &'a Clauses) -> Reading<'a> {
+    fn new(alloc: Global, given: &'a Clauses) -> Reading<'a> {
+        let mut clauses = Vec::new(alloc);
+        for clause in given.clauses.as_slice() {
+            put(&mut clauses, literals_of(alloc, clause));
+        }
         let mut atoms = Vec::new(alloc);
-        for atom in clauses.atoms.as_slice() {
+        for atom in given.atoms.as_slice() {
             put(&mut atoms, sum_of(atom.form.as_slice(), atom.bound));
         }
         let mut branches = Vec::new(alloc);
         put(&mut branches, Vec::new(alloc));
         Reading {
             alloc,
+            terms: given.terms.as_slice(),
             clauses,
             atoms,
             lemmas: Vec::new(alloc),
@@ -141,28 +158,26 @@ impl<'a> Reading<'a> {
     fn follows(&mut self, line: &CertLine) -> bool {
         let numbers = line.numbers.as_slice();
         if self.due > 0 {
-            return line.kind == CertKind::Q && self.step(numbers).is_some();
+            return line.kind == CertKind::Q && self.step(numbers);
         }
         match line.kind {
-            CertKind::T => !self.in_tree && self.atom(numbers).is_some(),
+            CertKind::T => !self.in_tree && self.atom(numbers),
             CertKind::G => !self.in_tree && self.congruence(numbers).is_some(),
             CertKind::R => !self.in_tree && self.linear(numbers).is_some(),
             CertKind::Q => false,
-            CertKind::S | CertKind::C | CertKind::M => {
-                self.in_tree = true;
-                self.tree_line(line.kind, numbers).is_some()
-            }
+            CertKind::S | CertKind::C | CertKind::M => self.tree_line(line.kind, numbers),
         }
     }
 
     /// A further atom, in normal form.
-    fn atom(&mut self, numbers: &[i128]) -> Option<()> {
-        let sum = read_sum(self.clauses.terms.len(), numbers)?;
-        if !sum.is_normal() {
-            return None;
+    fn atom(&mut self, numbers: &[i128]) -> bool {
+        match read_sum(self.terms.len(), numbers) {
+            Some(sum) => {
+                put(&mut self.atoms, sum);
+                sum.is_normal()
+            }
+            None => false,
         }
-        put(&mut self.atoms, sum);
-        Some(())
     }
 
     /// What 'the first is at most the second' says, by the first atom that is its normal form.
@@ -185,43 +200,23 @@ impl<'a> Reading<'a> {
         None
     }
 
-    /// Adds a comparison to a lemma, or its negation.
-    fn add(&self, lemma: &mut Lemma, x: Sum, y: Sum, holds: bool) -> Option<()> {
-        match self.at_most(x, y)? {
-            Said::Constant(truth) => lemma.is_true |= truth == holds,
-            Said::Literal(literal) => {
-                let said = if holds {
-                    literal
-                } else {
-                    literal.wrapping_neg()
-                };
-                put(&mut lemma.literals, said);
-            }
-        }
-        Some(())
-    }
-
     /// Of two applications of one symbol, an argument differs, or the first is at most the second.
     fn congruence(&mut self, numbers: &[i128]) -> Option<()> {
         let [i, j] = numbers else {
             return None;
         };
-        let first = item(self.clauses.terms.as_slice(), *i)?;
-        let second = item(self.clauses.terms.as_slice(), *j)?;
+        let (first, second) = (item(self.terms, *i)?, item(self.terms, *j)?);
         let (xs, ys) = (first.args.as_slice(), second.args.as_slice());
         if first.symbol != second.symbol || xs.len() != ys.len() {
             return None;
         }
-        let mut lemma = Lemma {
-            literals: Vec::new(self.alloc),
-            is_true: false,
-        };
+        let mut lemma = Vec::new(self.alloc);
         for at in 0..xs.len() {
             let (x, y) = (argument(&xs[at]), argument(&ys[at]));
-            self.add(&mut lemma, x, y, false)?;
-            self.add(&mut lemma, y, x, false)?;
+            put(&mut lemma, negation(self.at_most(x, y)?));
+            put(&mut lemma, negation(self.at_most(y, x)?));
         }
-        self.add(&mut lemma, single(*i), single(*j), true)?;
+        put(&mut lemma, self.at_most(single(*i), single(*j))?);
         put(&mut self.lemmas, lemma);
         Some(())
     }
@@ -246,89 +241,64 @@ impl<'a> Reading<'a> {
         for literal in literals {
             let row = self.row_of(*literal)?;
             put(&mut self.rows, row);
-            put(&mut self.negations, literal.wrapping_neg());
+            put(&mut self.negations, negation(Said::Literal(*literal)));
         }
         self.due = *due;
         Some(())
     }
 
-    /// A row that is a times one and b times another, over d; the last one says that 0 is negative.
-    fn step(&mut self, numbers: &[i128]) -> Option<()> {
+    /// The row of a step: a times one row and b times another, over d.
+    fn step_row(&self, numbers: &[i128]) -> Option<Sum> {
         let [a, i, b, j, d, sum @ ..] = numbers else {
             return None;
         };
         let (first, second) = (*item(&self.rows, *i)?, *item(&self.rows, *j)?);
-        let row = read_sum(self.clauses.terms.len(), sum)?;
+        let row = read_sum(self.terms.len(), sum)?;
         let most = MOST_COEFFICIENT as i128;
         let in_range = 1 <= *a && *a <= most && 0 <= *b && *b <= most && 1 <= *d && *d <= 1 << 63;
-        if !in_range || !first.is_narrow() || !second.is_narrow() {
-            return None;
-        }
-        if !first.with(*a, *b, second).comes_to(*d, row) {
-            return None;
-        }
-        put(&mut self.rows, row);
-        self.due = self.due.wrapping_sub(1);
-        if self.due > 0 {
-            return Some(());
-        }
-        let literals = mem::replace(&mut self.negations, Vec::new(self.alloc));
-        put(
-            &mut self.lemmas,
-            Lemma {
-                literals,
-                is_true: false,
-            },
-        );
-        if row.first() == 0 && row.number < 0 {
-            Some(())
+        let is_right = first.with(*a, *b, second).comes_to(*d, row);
+        if in_range && is_right && first.is_narrow() && second.is_narrow() {
+            Some(row)
         } else {
             None
         }
     }
 
-    /// A split, or a leaf by a clause or a lemma.
-    fn tree_line(&mut self, kind: CertKind, numbers: &[i128]) -> Option<()> {
-        let [number] = numbers else {
-            return None;
+    /// A step of the open lemma, the last of which says that 0 is at most a negative number.
+    fn step(&mut self, numbers: &[i128]) -> bool {
+        let Some(row) = self.step_row(numbers) else {
+            return false;
         };
-        let branch = self.branches.pop()?;
+        self.due = self.due.wrapping_sub(1);
+        if self.due > 0 {
+            put(&mut self.rows, row);
+            return true;
+        }
+        let lemma = mem::replace(&mut self.negations, Vec::new(self.alloc));
+        put(&mut self.lemmas, lemma);
+        row.first() == 0 && row.number < 0
+    }
+
+    /// A split, or a leaf by a clause or a lemma.
+    fn tree_line(&mut self, kind: CertKind, numbers: &[i128]) -> bool {
+        self.in_tree = true;
+        let ([number], Some(branch)) = (numbers, self.branches.pop()) else {
+            return false;
+        };
         match kind {
             CertKind::S => self.split(&branch, *number),
-            CertKind::C => self.clause_leaf(&branch, *number),
-            _ => self.lemma_leaf(&branch, *number),
+            CertKind::C => is_leaf(&self.clauses, *number, &branch),
+            _ => is_leaf(&self.lemmas, *number, &branch),
         }
     }
 
     /// The tree where the atom is true follows, then the one where it is false.
-    fn split(&mut self, branch: &[i128], atom: i128) -> Option<()> {
+    fn split(&mut self, branch: &[i128], atom: i128) -> bool {
+        let is_there = 1 <= atom && atom <= self.atoms.len() as i128;
         let negation = atom.wrapping_neg();
-        if atom < 1 || atom > self.atoms.len() as i128 {
-            return None;
-        }
-        if branch.contains(&atom) || branch.contains(&negation) {
-            return None;
-        }
         put(&mut self.branches, with(self.alloc, branch, negation));
         put(&mut self.branches, with(self.alloc, branch, atom));
-        Some(())
-    }
-
-    fn clause_leaf(&self, branch: &[i128], number: i128) -> Option<()> {
-        for literal in item(self.clauses.clauses.as_slice(), number)?.as_slice() {
-            if !branch.contains(&(*literal as i128).wrapping_neg()) {
-                return None;
-            }
-        }
-        Some(())
-    }
-
-    fn lemma_leaf(&self, branch: &[i128], number: i128) -> Option<()> {
-        let lemma = item(&self.lemmas, number)?;
-        if lemma.is_true || !are_false(branch, &lemma.literals) {
-            return None;
-        }
-        Some(())
+        is_there && !branch.contains(&atom) && !branch.contains(&negation)
     }
 }
 

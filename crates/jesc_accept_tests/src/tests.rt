@@ -1,7 +1,7 @@
 //! Certificates over one term, the one atom that it is at most 0, and the clauses of the literals 1 and -1.
 
-use crate::problems::PROBLEMS;
-use crate::trial::{Tally, answer_to, given_without};
+use crate::certificates::append_lines;
+use crate::trial::{Given, Tally, answer_to, given_problems, problem_of};
 use jesc_accept::Accept;
 use jesc_cert::parse_cert;
 use jesc_text::Text;
@@ -15,90 +15,89 @@ fn no(step: u32) -> Accept {
     Accept::No { step }
 }
 
-/// The file of one certificate of these lines.
-fn file_of(rt: &impl Abort, alloc: Global, lines: &[u8]) -> Text {
-    let mut text = Text::new(alloc);
-    text.append(b"jescert 1\nrounds 0\ncond A 0\n")
-        .expect(rt, "memory");
-    text.append(lines).expect(rt, "memory");
-    text.append(b"end\n").expect(rt, "memory");
-    text
+/// What the checker answers to the certificate of these lines.
+fn answer(rt: &impl Abort, alloc: Global, given: &Given, lines: &str, tally: &mut Tally) -> Accept {
+    let mut file = Text::new(alloc);
+    append_lines(&mut file, "jescert 1; rounds 0; cond A 0");
+    append_lines(&mut file, lines);
+    append_lines(&mut file, "end");
+    let certs = parse_cert(alloc, file.as_slice()).expect(rt, "certificates");
+    let block = certs.list.as_slice().first().expect(rt, "a certificate");
+    answer_to(rt, alloc, given, &block.2, tally)
 }
 
 /// Asserts the answers to certificates of these lines.
-fn expect_answers(rt: &impl Abort, alloc: Global, cases: &[(&[u8], Accept)]) {
-    let given = given_without(alloc, &PROBLEMS[0], 2);
+fn expect_answers(rt: &impl Abort, alloc: Global, cases: &[(&str, Accept)]) {
+    let problems = given_problems(alloc);
+    let given = problem_of(rt, &problems, 0);
     let mut tally = Tally::new();
     for (lines, wanted) in cases {
-        let text = file_of(rt, alloc, lines);
-        let certs = parse_cert(alloc, text.as_slice()).expect(rt, "a certificate");
-        for block in certs.list.as_slice() {
-            let answer = answer_to(rt, alloc, &given, &block.2, &mut tally);
-            assert_eq!(rt; answer, *wanted, "{lines:?}");
-        }
+        let found = answer(rt, alloc, given, lines, &mut tally);
+        assert_eq!(rt; found, *wanted, "{lines}");
     }
-    assert_eq!(rt; tally.tried as usize, cases.len());
 }
 
 #[test]
 fn trees(rt: HostRuntime) {
-    let cases: [(&[u8], Accept); 9] = [
-        (b"s 1\nc 1\nc 0\n", YES),
-        (b"s 1\nc 0\nc 1\n", no(1)),
-        (b"s 1\nc 1\n", no(2)),
-        (b"s 1\nc 1\nc 0\nc 0\n", no(3)),
-        (b"s 2\nc 1\nc 0\n", no(0)),
-        (b"", no(0)),
-        (b"s 1\ns 1\n", no(1)),
-        (b"s 1\nc 2\n", no(1)),
-        (b"s 0\n", no(0)),
+    let cases: [(&str, Accept); 9] = [
+        ("s 1; c 1; c 0", YES),
+        ("s 1; c 0; c 1", no(1)),
+        ("s 1; c 1", no(2)),
+        ("s 1; c 1; c 0; c 0", no(3)),
+        ("s 2; c 1; c 0", no(0)),
+        ("", no(0)),
+        ("s 1; s 1", no(1)),
+        ("s 1; c 2", no(1)),
+        ("s 0", no(0)),
     ];
     expect_answers(&rt, rt.alloc(), &cases);
 }
 
 #[test]
 fn lines_of_atoms(rt: HostRuntime) {
-    let cases: [(&[u8], Accept); 7] = [
-        (b"t 5 1 1 0\ns 2\ns 1\nc 1\nc 0\ns 1\nc 1\nc 0\n", YES),
-        (b"t 5 1 2 0\n", no(0)),
-        (b"t 5 1 -1 0\n", no(0)),
-        (b"t 5 1 1 1\n", no(0)),
-        (b"t 5 0\n", no(0)),
-        (b"t 5 1 2147483649 0\n", no(0)),
-        (b"s 1\nt 5 1 1 0\n", no(1)),
+    let cases: [(&str, Accept); 7] = [
+        ("t 5 1 1 0; s 2; s 1; c 1; c 0; s 1; c 1; c 0", YES),
+        ("t 5 1 2 0", no(0)),
+        ("t 5 1 -1 0", no(0)),
+        ("t 5 1 1 1", no(0)),
+        ("t 5 0", no(0)),
+        ("t 5 1 2147483649 0", no(0)),
+        ("s 1; t 5 1 1 0", no(1)),
     ];
     expect_answers(&rt, rt.alloc(), &cases);
 }
 
 #[test]
 fn lines_of_arithmetic(rt: HostRuntime) {
-    let cases: [(&[u8], Accept); 9] = [
-        (b"r 2 1 -1 1\nq 1 0 1 1 1 -1 0\ns 1\nc 1\nc 0\n", YES),
+    let cases: [(&str, Accept); 11] = [
+        ("r 2 1 -1 1; q 1 0 1 1 1 -1 0; s 1; c 1; c 0", YES),
         (
-            b"t -1 1 1 0\nr 2 -1 2 1\nq 1 0 1 1 1 -2 0\ns 1\nc 1\ns 2\nm 0\nc 0\n",
+            "t -1 1 1 0; r 2 -1 2 1; q 1 0 1 1 1 -2 0; s 1; c 1; s 2; m 0; c 0",
             YES,
         ),
         (
-            b"t -1 1 1 0\nr 2 -1 2 1\nq 1 0 1 1 1 -2 0\ns 1\ns 2\nm 0\n",
+            "t -1 1 1 0; r 2 -1 2 1; q 1 0 1 1 1 -2 0; s 1; s 2; m 0",
             no(5),
         ),
-        (b"r 2 1 -1 1\nq 1 0 1 1 1 0 0\n", no(1)),
-        (b"r 2 1 -1 1\nq 1 0 1 2 1 -1 0\n", no(1)),
-        (b"r 2 1 -1 2\nq 1 0 1 1 1 -1 0\ns 1\n", no(2)),
-        (b"r 2 1 -1 0\n", no(0)),
-        (b"r 1 2 1\n", no(0)),
-        (b"q 1 0 1 1 1 -1 0\n", no(0)),
+        ("r 2 1 -1 1; q 1 0 1 1 1 0 0", no(1)),
+        ("r 2 1 -1 1; q 1 0 1 2 1 -1 0", no(1)),
+        ("r 2 1 -1 2; q 1 0 1 1 1 -1 0; s 1", no(2)),
+        ("t -1 1 1 0; r 2 1 -2 1; q 1 0 1 1 1 0 0", no(2)),
+        ("r 1 1 1; q 1 0 0 0 1 0 1 1 0", no(1)),
+        ("r 2 1 -1 0", no(0)),
+        ("r 1 2 1", no(0)),
+        ("q 1 0 1 1 1 -1 0", no(0)),
     ];
     expect_answers(&rt, rt.alloc(), &cases);
 }
 
 #[test]
 fn lines_of_congruence(rt: HostRuntime) {
-    let cases: [(&[u8], Accept); 4] = [
-        (b"g 0 0\ns 1\nc 1\nc 0\n", YES),
-        (b"g 0 0\ns 1\nm 0\n", no(2)),
-        (b"g 0 1\n", no(0)),
-        (b"g 0 -1\n", no(0)),
+    let cases: [(&str, Accept); 4] = [
+        ("g 0 0; s 1; c 1; c 0", YES),
+        ("g 0 0; s 1; m 0", no(2)),
+        ("g 0 1", no(0)),
+        ("g 0 -1", no(0)),
     ];
     expect_answers(&rt, rt.alloc(), &cases);
 }

@@ -1,6 +1,6 @@
 //! Files of certificates, cut and with damaged bytes.
 
-use crate::certificates::CERTIFICATES;
+use crate::certificates::file;
 use crate::lines::bad_line;
 use crate::trial::{Tally, given_problems, try_all};
 use jesc_cert::{CertError, Certs, parse_cert, print_cert};
@@ -39,13 +39,24 @@ fn read(rt: &impl Abort, alloc: Global, bytes: &[u8]) -> Option<Certs> {
     }
 }
 
+/// The bytes, ended by a line feed, as far as memory goes.
+fn ended(alloc: Global, bytes: &[u8]) -> Text {
+    let mut text = Text::new(alloc);
+    let _done = text.append(bytes).is_ok() && text.append(b"\n").is_ok();
+    text
+}
+
 #[test]
 fn every_cut(rt: HostRuntime) {
-    let bytes = CERTIFICATES.as_bytes();
+    let alloc = rt.alloc();
+    let text = file(alloc);
+    let bytes = text.as_slice();
     assert_eq!(rt; bytes.len(), 1604);
-    for cut in 0..=bytes.len() {
-        let certs = read(&rt, rt.alloc(), &bytes[..cut]);
-        assert_eq!(rt; certs.is_some(), cut == bytes.len(), "{cut}");
+    for cut in 0..=1604 {
+        let certs = read(&rt, alloc, &bytes[..cut]);
+        assert_eq!(rt; certs.is_some(), cut == 1604, "{cut}");
+        let certs = read(&rt, alloc, ended(alloc, &bytes[..cut]).as_slice());
+        assert_eq!(rt; certs.is_some(), cut == 1603, "{cut}");
     }
 }
 
@@ -54,6 +65,64 @@ fn no_certificates(rt: HostRuntime) {
     let certs = read(&rt, rt.alloc(), b"jescert 1\nrounds 2\nend\n").expect(&rt, "none");
     assert_eq!(rt; certs.rounds, 2);
     assert_eq!(rt; certs.list.len(), 0);
+}
+
+/// Bytes that stand in files of certificates, or near to one, the more frequent ones twice.
+const BYTES: [u8; 28] = *b"0123456789--  \n\ntgrqscmend\0\x80";
+
+/// What is done to a byte.
+#[derive(Drop, Clone, Copy)]
+enum Change {
+    Dropped,
+    Replaced(u8),
+    /// Another byte stands before it.
+    Preceded(u8),
+}
+
+/// Puts a byte with its change, as far as memory goes.
+fn put_changed(bytes: &mut Vec<u8>, byte: u8, change: Change) {
+    let _done = match change {
+        Change::Dropped => true,
+        Change::Replaced(other) => bytes.push(other).is_ok(),
+        Change::Preceded(other) => bytes.push(other).is_ok() && bytes.push(byte).is_ok(),
+    };
+}
+
+/// The bytes with that of a place changed.
+fn changed(alloc: Global, bytes: &[u8], at: usize, change: Change) -> Vec<u8> {
+    let mut all = Vec::new(alloc);
+    for place in 0..bytes.len() {
+        let byte = bytes[place];
+        let here = if place == at {
+            change
+        } else {
+            Change::Replaced(byte)
+        };
+        put_changed(&mut all, byte, here);
+    }
+    all
+}
+
+#[test]
+fn each_byte_of_a_small_file_is_changed(rt: HostRuntime) {
+    let alloc = rt.alloc();
+    let bytes = b"jescert 1\nrounds 2\ncond A 4294967295\nr 1 1 1\nend\n";
+    let (mut tried, mut good) = (0u32, 0u32);
+    for at in 0..bytes.len() {
+        for byte in BYTES {
+            for change in [
+                Change::Dropped,
+                Change::Replaced(byte),
+                Change::Preceded(byte),
+            ] {
+                let certs = read(&rt, alloc, &changed(alloc, bytes, at, change));
+                tried = tried.saturating_add(1);
+                good = good.saturating_add(certs.is_some() as u32);
+            }
+        }
+    }
+    assert_eq!(rt; tried, 4116);
+    assert!(rt; good > 200 && good < 2000, "{good}");
 }
 
 /// Numbers that look random, the same ones each time.
@@ -72,45 +141,34 @@ impl Numbers {
         ((self.state >> 33) as usize).checked_rem(most).unwrap_or(0)
     }
 
-    /// A byte that stands in certificates, or near to one.
-    fn byte(&mut self) -> u8 {
-        let bytes = b"0123456789--  \n\ntgrqscmend\0\x80";
-        let place = self.below(bytes.len());
-        bytes.get(place).copied().unwrap_or(0)
-    }
-}
-
-/// The bytes with one changed, taken out or put in.
-fn damaged(alloc: Global, bytes: &[u8], numbers: &mut Numbers) -> Vec<u8> {
-    let at = numbers.below(bytes.len());
-    let change = numbers.below(3);
-    let byte = numbers.byte();
-    let mut damaged = Vec::new(alloc);
-    for place in 0..bytes.len() {
-        if place == at && change > 0 {
-            let _done = damaged.push(byte).is_ok();
-        }
-        if place != at || change == 2 {
-            let _done = damaged.push(bytes[place]).is_ok();
+    fn change(&mut self) -> Change {
+        let place = self.below(BYTES.len());
+        let byte = BYTES.get(place).copied().unwrap_or(0);
+        match self.below(3) {
+            0 => Change::Dropped,
+            1 => Change::Replaced(byte),
+            _ => Change::Preceded(byte),
         }
     }
-    damaged
 }
 
 #[test]
-fn damaged_bytes(rt: HostRuntime) {
+fn bytes_of_the_file_are_changed(rt: HostRuntime) {
     let alloc = rt.alloc();
     let problems = given_problems(alloc);
+    let text = file(alloc);
     let mut numbers = Numbers { state: 20 };
     let mut good = 0u32;
     let mut tally = Tally::new();
     for _turn in 0..2000 {
-        let bytes = damaged(alloc, CERTIFICATES.as_bytes(), &mut numbers);
+        let at = numbers.below(text.len());
+        let bytes = changed(alloc, text.as_slice(), at, numbers.change());
         if let Some(certs) = read(&rt, alloc, &bytes) {
             good = good.saturating_add(1);
             try_all(&rt, alloc, problems.as_slice(), &certs, &mut tally);
         }
     }
     assert!(rt; good > 200 && good < 1800, "{good}");
-    assert!(rt; tally.has_both(100), "{tally:?}");
+    let refused = tally.tried.saturating_sub(tally.accepted);
+    assert!(rt; tally.accepted > 3000 && refused > 100, "{refused}");
 }

@@ -1,7 +1,7 @@
 //! A certificate tried over clauses: by the checker, by the plain reading, and by small numbers for the terms.
 
 use crate::plain::judge;
-use crate::problems::{PROBLEMS, Problem, problem_without, put};
+use crate::problems::{ROWS, clauses_of, is_row, put};
 use crate::worlds::has_countermodel;
 use jesc_accept::{Accept, accept};
 use jesc_cert::{Cert, Certs};
@@ -11,7 +11,7 @@ use std::alloc::Global;
 use std::process::Abort;
 
 /// How many certificates were tried, and how many of them were accepted.
-#[derive(Debug, Drop, Clone, Copy)]
+#[derive(Drop, Clone, Copy)]
 pub struct Tally {
     pub tried: u32,
     pub accepted: u32,
@@ -23,11 +23,6 @@ impl Tally {
             tried: 0,
             accepted: 0,
         }
-    }
-
-    /// Whether both answers came at least so often.
-    pub fn has_both(self, least: u32) -> bool {
-        self.accepted >= least && self.tried.saturating_sub(self.accepted) >= least
     }
 
     fn add(&mut self, answer: Accept) {
@@ -45,9 +40,9 @@ pub struct Given {
     pub has_countermodel: bool,
 }
 
-/// The problem, but for the clause of this place, if there is one.
-pub fn given_without(alloc: Global, problem: &Problem, left_out: usize) -> Given {
-    let clauses = problem_without(alloc, problem, left_out);
+/// The problem of a row, but for the clause of this place, if there is one.
+pub fn given_without(alloc: Global, row: &str, left_out: usize) -> Given {
+    let clauses = clauses_of(alloc, row, left_out);
     let has_countermodel = has_countermodel(&clauses);
     Given {
         clauses,
@@ -58,11 +53,10 @@ pub fn given_without(alloc: Global, problem: &Problem, left_out: usize) -> Given
 /// All problems.
 pub fn given_problems(alloc: Global) -> List<Given> {
     let mut problems = List::new(alloc);
-    for problem in &PROBLEMS {
-        put(
-            &mut problems,
-            given_without(alloc, problem, problem.clauses.len()),
-        );
+    for row in ROWS.lines() {
+        if is_row(row) {
+            put(&mut problems, given_without(alloc, row, usize::MAX));
+        }
     }
     problems
 }

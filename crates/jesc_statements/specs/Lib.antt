@@ -1,0 +1,4 @@
+pub mod Bodies
+pub mod Targets
+pub mod Ending
+pub mod Walking
